@@ -1,0 +1,4 @@
+pub mod Facts
+pub mod Written
+pub mod Tables
+pub mod Digits

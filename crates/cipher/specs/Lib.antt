@@ -1,0 +1,2 @@
+pub mod Permutes
+pub mod Cbc
