@@ -1,0 +1,3 @@
+pub mod Permuting
+pub mod Chain
+pub mod Undo

@@ -1,2 +1,4 @@
 pub mod Permutes
+pub mod Triple
 pub mod Cbc
+pub mod Links
