@@ -32,7 +32,7 @@ unfolding octets
 octets-four x = rw div-one
 
 pub octets-eight : (x : ℕ)
-  → octets 8 x ≡ x / 72057594037927936 % 256 ∷ x / 281474976710656 % 256 ∷ x / 1099511627776 % 256 ∷ x / 4294967296 % 256 ∷ x / 16777216 % 256 ∷ x / 65536 % 256 ∷ x / 256 % 256 ∷ x % 256 ∷ []
+    → octets 8 x ≡ x / 72057594037927936 % 256 ∷ x / 281474976710656 % 256 ∷ x / 1099511627776 % 256 ∷ x / 4294967296 % 256 ∷ x / 16777216 % 256 ∷ x / 65536 % 256 ∷ x / 256 % 256 ∷ x % 256 ∷ []
 unfolding octets
 octets-eight x = rw div-one
 
@@ -42,7 +42,7 @@ read-on n [] = omega arith
 read-on n (b ∷ bs) =
     let p : 256 ^ suc (length bs) ≡ 256 * 256 ^ length bs = pow-succ' 256 (length bs) in
     let front : (n * 256 + b) * 256 ^ length bs ≡ n * 256 ^ suc (length bs) + b * 256 ^ length bs =
-          add-mul (n * 256) b (256 ^ length bs) ∙ ap (λ m. m + b * 256 ^ length bs) (mul-assoc n 256 (256 ^ length bs) ∙ ap (λ m. n * m) (sym p)) in
+    add-mul (n * 256) b (256 ^ length bs) ∙ ap (λ m. m + b * 256 ^ length bs) (mul-assoc n 256 (256 ^ length bs) ∙ ap (λ m. n * m) (sym p)) in
     let one : numberAfter 256 (0 * 256 + b) bs ≡ b * 256 ^ length bs + number bs = ap (λ m. numberAfter 256 m bs) (omega arith) ∙ read-on b bs in
     read-on (n * 256 + b) bs ∙ omega (arith, front, one)
 

@@ -26,30 +26,30 @@ none n (inl e) = let P : ℕ → Type 0 = λ m. take m zeros ≡ replicate m 0 i
 none n (inr e) = let P : ℕ → Type 0 = λ m. take m zeros ≡ replicate m 0 in subst P (sym e) refl
 
 pub start : (n : ℕ) (F G : List ℕ → List ℕ → List ℕ) (buf : List ℕ) (from : ℕ) → (n ≡ 8) ⊎ (n ≡ 16) → from ≤ length buf → (length buf - from) % n ≡ 0
-  → Going n F G (take from buf ++ chained n F G (length (drop from buf) / n) (replicate n 0) (drop from buf)) buf zeros from
+    → Going n F G (take from buf ++ chained n F G (length (drop from buf) / n) (replicate n 0) (drop from buf)) buf zeros from
 start n F G buf from s le e = record {
   blocks = length (drop from buf) / n;
   fills =
-    let d : length (drop from buf) ≡ length buf - from = length-drop from buf in
-    let m : length (drop from buf) % n ≡ 0 = ap (λ k. k % n) d ∙ e in
-    omega (arith, div-add-mod' (length (drop from buf)) n);
+      let d : length (drop from buf) ≡ length buf - from = length-drop from buf in
+      let m : length (drop from buf) % n ≡ 0 = ap (λ k. k % n) d ∙ e in
+      omega (arith, div-add-mod' (length (drop from buf)) n);
   long = refl;
   gives = ap (λ p. take from buf ++ chained n F G (length (drop from buf) / n) p (drop from buf)) (none n s);
 }
 
 -- k and j are n, as the code writes it
 module _ (n k j : ℕ) (F G : List ℕ → List ℕ → List ℕ) (t buf before block next : List ℕ) (i : ℕ) (ek : k ≡ n) (ej : j ≡ n) (small : n ≤ 16) (el : length block ≡ n) (eb : next ≡ G (take j before) (take k (drop i buf)))
-  (ln : length next ≡ n) (en : block ≡ F (take j before) (take k (drop i buf))) where
+    (ln : length next ≡ n) (en : block ≡ F (take j before) (take k (drop i buf))) where
   step : (m : ℕ) → i + suc m * n ≡ length buf → length before ≡ 16 → take i buf ++ chained n F G (suc m) (take n before) (drop i buf) ≡ t
-    → Going n F G t (putMid i k buf block) (next ++ postOf 0 j before) (i + n)
+      → Going n F G t (putMid i k buf block) (next ++ postOf 0 j before) (i + n)
   unfolding chained
   step m fills long gives =
       let f : (i + n) + m * n ≡ length buf = omega (arith, suc-mul m n) in
       let il : i ≤ length buf = omega arith in
       let made : F (take n before) (take n (drop i buf)) ≡ block =
-            sym (en ∙ ap (λ a. F (take j before) (take a (drop i buf))) ek ∙ ap (λ a. F (take a before) (take n (drop i buf))) ej) in
+      sym (en ∙ ap (λ a. F (take j before) (take a (drop i buf))) ek ∙ ap (λ a. F (take a before) (take n (drop i buf))) ej) in
       let after : next ≡ G (take n before) (take n (drop i buf)) =
-            eb ∙ ap (λ a. G (take j before) (take a (drop i buf))) ek ∙ ap (λ a. G (take a before) (take n (drop i buf))) ej in
+      eb ∙ ap (λ a. G (take j before) (take a (drop i buf))) ek ∙ ap (λ a. G (take a before) (take n (drop i buf))) ej in
       let front : take (i + n) (putMid i k buf block) ≡ take i buf ++ block = take-putMid i k buf block (i + n) (omega arith) il in
       let rest : drop (i + n) (putMid i k buf block) ≡ drop n (drop i buf) = drop-putMid i k buf block (i + n) (omega arith) il (omega arith) ∙ sym (drop-drop n i buf) in
       let prev : take n (next ++ postOf 0 j before) ≡ G (take n before) (take n (drop i buf)) = take-at next (postOf 0 j before) n ln ∙ after in
@@ -60,15 +60,15 @@ module _ (n k j : ℕ) (F G : List ℕ → List ℕ → List ℕ) (t buf before 
         fills = f ∙ sym (simp (length-append, length-take, length-drop) (omega arith));
         long = simp (length-append, length-drop) (omega arith);
         gives =
-          ap (λ a. a ++ chained n F G m (take n (next ++ postOf 0 j before)) (drop (i + n) (putMid i k buf block))) front
-          ∙ ap (λ a. (take i buf ++ block) ++ chained n F G m a (drop (i + n) (putMid i k buf block))) prev
-          ∙ ap (λ a. (take i buf ++ block) ++ chained n F G m q a) rest
-          ∙ append-assoc (take i buf) block (chained n F G m q (drop n (drop i buf)))
-          ∙ was;
+            ap (λ a. a ++ chained n F G m (take n (next ++ postOf 0 j before)) (drop (i + n) (putMid i k buf block))) front
+            ∙ ap (λ a. (take i buf ++ block) ++ chained n F G m a (drop (i + n) (putMid i k buf block))) prev
+            ∙ ap (λ a. (take i buf ++ block) ++ chained n F G m q a) rest
+            ∙ append-assoc (take i buf) block (chained n F G m q (drop n (drop i buf)))
+            ∙ was;
       }
 
   by-count : (m : ℕ) → i < length buf → i + m * n ≡ length buf → length before ≡ 16 → take i buf ++ chained n F G m (take n before) (drop i buf) ≡ t
-    → Going n F G t (putMid i k buf block) (next ++ postOf 0 j before) (i + n)
+      → Going n F G t (putMid i k buf block) (next ++ postOf 0 j before) (i + n)
   by-count zero lt fills long gives = absurd (omega (arith, zero-mul n))
   by-count (suc m) lt fills long gives = step m fills long gives
 
@@ -87,7 +87,7 @@ unfolding chained
 done n F G t buf before i s w h =
     let z : w .blocks ≡ 0 = left-none n (w .blocks) i (length buf) s (w .fills) h in
     let g : take i buf ++ chained n F G 0 (take n before) (drop i buf) ≡ t =
-          ap (λ m. take i buf ++ chained n F G m (take n before) (drop i buf)) (sym z) ∙ w .gives in
+    ap (λ m. take i buf ++ chained n F G m (take n before) (drop i buf)) (sym z) ∙ w .gives in
     sym (ap (λ a. a ++ drop i buf) (take-all i buf h) ∙ ap (λ a. buf ++ a) (drop-all i buf h) ∙ append-nil buf) ∙ g
 
 -- a whole block is left

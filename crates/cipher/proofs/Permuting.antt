@@ -15,4 +15,5 @@ after {n} {E} {D} {F} {G} p q = record {
   forth = λ b h. q .forth (E b) (p .forth b h);
   back = λ b h. p .back (G b) (q .back b h);
   undoes = λ b h. ap D (q .undoes (E b) (p .forth b h)) ∙ p .undoes b h;
-  redoes = λ b h. ap F (p .redoes (G b) (q .back b h)) ∙ q .redoes b h }
+  redoes = λ b h. ap F (p .redoes (G b) (q .back b h)) ∙ q .redoes b h;
+}

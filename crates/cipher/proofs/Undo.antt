@@ -24,7 +24,7 @@ module _ (n : ℕ) (E D : List ℕ → List ℕ) (p : Permutes n E D) where
   joined a b h g = (length-xors a b ∙ h .0, bytes-xors a b (h .1) (g .1))
 
   undo : (m : ℕ) (prev xs : List ℕ) → Block n prev → length xs ≡ m * n → Bytes xs
-    → (length (chained n (forth E) (forth E) m prev xs) ≡ length xs) × (chained n (back D) itself m prev (chained n (forth E) (forth E) m prev xs) ≡ xs)
+      → (length (chained n (forth E) (forth E) m prev xs) ≡ length xs) × (chained n (back D) itself m prev (chained n (forth E) (forth E) m prev xs) ≡ xs)
   unfolding chained
   undo zero prev xs q l h = (refl, refl)
   undo (suc m) prev xs q l h =
@@ -36,16 +36,17 @@ module _ (n : ℕ) (E D : List ℕ → List ℕ) (p : Permutes n E D) where
       let ih = undo m c (drop n xs) b r (bytes-drop n xs h) in
       let t : take n (c ++ tail) ≡ c = take-at c tail n (b .0) in
       let d : drop n (c ++ tail) ≡ tail = drop-at c tail n (b .0) in
-      let one : xors (D c) prev ≡ take n xs = ap (λ y. xors y prev) (p .undoes (xors (take n xs) prev) k) ∙ xors-undone (take n xs) prev in
-      (length-append c tail ∙ omega (arith, b .0, ih .0, r, suc-mul m n),
-       ap (λ y. xors (D y) prev ++ chained n (back D) itself m y (drop n (c ++ tail))) t
-       ∙ ap (λ y. xors (D c) prev ++ chained n (back D) itself m c y) d
-       ∙ ap (λ y. y ++ chained n (back D) itself m c tail) one
-       ∙ ap (λ y. take n xs ++ y) (ih .1)
-       ∙ take-append-drop n xs)
+      let one : xors (D c) prev ≡ take n xs = ap (λ y. xors y prev) (p .undoes (xors (take n xs) prev) k) ∙ xors-undone (take n xs) prev in (
+        length-append c tail ∙ omega (arith, b .0, ih .0, r, suc-mul m n),
+        ap (λ y. xors (D y) prev ++ chained n (back D) itself m y (drop n (c ++ tail))) t
+            ∙ ap (λ y. xors (D c) prev ++ chained n (back D) itself m c y) d
+            ∙ ap (λ y. y ++ chained n (back D) itself m c tail) one
+            ∙ ap (λ y. take n xs ++ y) (ih .1)
+            ∙ take-append-drop n xs,
+      )
 
   redo : (m : ℕ) (prev xs : List ℕ) → Block n prev → length xs ≡ m * n → Bytes xs
-    → (length (chained n (back D) itself m prev xs) ≡ length xs) × (chained n (forth E) (forth E) m prev (chained n (back D) itself m prev xs) ≡ xs)
+      → (length (chained n (back D) itself m prev xs) ≡ length xs) × (chained n (forth E) (forth E) m prev (chained n (back D) itself m prev xs) ≡ xs)
   unfolding chained
   redo zero prev xs q l h = (refl, refl)
   redo (suc m) prev xs q l h =
@@ -58,12 +59,13 @@ module _ (n : ℕ) (E D : List ℕ → List ℕ) (p : Permutes n E D) where
       let ih = redo m c (drop n xs) b r (bytes-drop n xs h) in
       let t : take n (x ++ tail) ≡ x = take-at x tail n (k .0) in
       let d : drop n (x ++ tail) ≡ tail = drop-at x tail n (k .0) in
-      let one : E (xors (take n (x ++ tail)) prev) ≡ c = ap (λ y. E (xors y prev)) t ∙ ap E (xors-undone (D c) prev) ∙ p .redoes c b in
-      (length-append x tail ∙ omega (arith, k .0, ih .0, r, suc-mul m n),
-       ap (λ y. y ++ chained n (forth E) (forth E) m y (drop n (x ++ tail))) one
-       ∙ ap (λ y. c ++ chained n (forth E) (forth E) m c y) d
-       ∙ ap (λ y. c ++ y) (ih .1)
-       ∙ take-append-drop n xs)
+      let one : E (xors (take n (x ++ tail)) prev) ≡ c = ap (λ y. E (xors y prev)) t ∙ ap E (xors-undone (D c) prev) ∙ p .redoes c b in (
+        length-append x tail ∙ omega (arith, k .0, ih .0, r, suc-mul m n),
+        ap (λ y. y ++ chained n (forth E) (forth E) m y (drop n (x ++ tail))) one
+            ∙ ap (λ y. c ++ chained n (forth E) (forth E) m c y) d
+            ∙ ap (λ y. c ++ y) (ih .1)
+            ∙ take-append-drop n xs,
+      )
 
   zeros : Block n (replicate n 0)
   zeros = (length-replicate n 0, bytes-zeros n)

@@ -5,8 +5,8 @@ ghost use Prim.Native.Nat.{_-_, _%_, _≤_};
 ghost use lib.ListN.{length, take, drop};
 ghost use Rattle.cipher.specs.Cbc.{cbc, uncbc};
 ghost use Rattle.cipher.specs.Links.{becomes, carried, chain-of};
-use bytes::join;
 use crate::block::BlockCipher;
+use bytes::join;
 
 // Which way a chain runs.
 #[derive(Clone, Copy)]

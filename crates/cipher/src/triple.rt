@@ -20,7 +20,11 @@ impl<C: BlockCipher> Triple<C> {
         ensures keys { λ r. ⌜ (r .first ≡ first) × (r .second ≡ second) × (r .third ≡ third) ⌝ }
         ensures single { λ r. ⌜ (first ≡ second → second ≡ third → (b : List ℕ) → Block (C·BlockCipher .size) b → in-turn (C·BlockCipher .enc (r .first)) (C·BlockCipher .dec (r .second)) (C·BlockCipher .enc (r .third)) b ≡ C·BlockCipher .enc first b) ⌝ }
     {
-        Triple { first, second, third }
+        Triple {
+            first,
+            second,
+            third,
+        }
     }
 }
 
