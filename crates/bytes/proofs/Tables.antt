@@ -1,16 +1,14 @@
 -- A rule proved at all entries of a table, or at all numbers below a bound, by one test that is computed.
-use mathlib.Core.Path.{_≡_, _∙_, subst, sym}
+use mathlib.Core.Path.{_≡_, refl, _∙_, subst, sym}
 use mathlib.Core.Bool.{Bool, true, false}
 use mathlib.Core.List.{List, [], _∷_}
 use mathlib.Core.Logic.{⊎-elim}
+pub use Rattle.bytes.specs.Bytes.{both, small}
 use Prim.Native.Nat.{ℕ, zero, suc, _+_, _<_, _≤_}
 use native.Mathlib.Nat.{add-zero, zero-add, add-suc, suc-add, le-of-suc-le-suc, not-suc-le-zero, eq-or-lt-of-le}
+use borrow.Author.Tests.{lt-ltb}
 use lib.Dec.{T, ltb, leb→le}
 use lib.ListN.{length, getD}
-
-abbrev pub both : Bool → Bool → Bool
-both true b = b
-both false b = false
 
 pub both-left : (a b : Bool) → T (both a b) → T a
 both-left true b t = tt
@@ -49,11 +47,11 @@ all-below-at f (suc n) t k h =
     (eq-or-lt-of-le (le-of-suc-le-suc h))
 
 -- Each entry of a table is below m, at every index, the ones past its end too.
-abbrev pub small : ℕ → List ℕ → Bool
-small m [] = true
-small m (x ∷ xs) = both (ltb x m) (small m xs)
-
 pub small-at : (m : ℕ) → 0 < m → (xs : List ℕ) → T (small m xs) → (i : ℕ) → getD xs i 0 < m
 small-at m p [] t i = p
 small-at m p (x ∷ xs) t zero = leb→le (suc x) m (both-left (ltb x m) (small m xs) t)
 small-at m p (x ∷ xs) t (suc i) = small-at m p xs (both-right (ltb x m) (small m xs) t) i
+
+pub small-from : (m : ℕ) (xs : List ℕ) → ((i : ℕ) → getD xs i 0 < m) → small m xs ≡ true
+small-from m [] h = refl
+small-from m (x ∷ xs) h = rw (lt-ltb x m (h 0), small-from m xs (λ i. h (suc i)))
