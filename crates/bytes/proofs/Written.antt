@@ -1,11 +1,12 @@
--- A loop that writes the list xs over the list ys, from the front: its state after i turns, and its steps.
+-- Lists written over others: by a loop from the front, and part by part.
 use mathlib.Core.Path.{_≡_, ap, sym, _∙_}
 use mathlib.Core.List.{List, [], _∷_, _++_}
 use Prim.Native.Nat.{ℕ, _<_, _≤_, _+_}
 use native.Mathlib.Omega.{arith}
-use lib.ListN.{length, getD, set, take, drop}
-use Rattle.std.proofs.shelf.Lists.{drop-more, take-more, set-at, getD-at, length-take-le, take-all, drop-all, append-assoc, append-nil}
+use lib.ListN.{length, getD, set, take, drop, length-append}
+use Rattle.std.proofs.shelf.Lists.{drop-more, take-more, set-at, getD-at, length-take-le, take-all, take-at, drop-all, drop-at, drop-drop, append-assoc, append-nil}
 
+-- A loop that writes xs over ys: its state after i turns.
 abbrev pub over : {X : Type 0} → List X → List X → ℕ → List X
 over xs ys i = take i xs ++ drop i ys
 
@@ -27,3 +28,16 @@ pub over-all : {X : Type 0} (xs ys : List X) (i : ℕ) → length xs ≡ length 
 over-all xs ys i e h =
     let g : length ys ≤ i = omega arith in
     ap (λ zs. zs ++ drop i ys) (take-all i xs h) ∙ ap (λ zs. xs ++ zs) (drop-all i ys g) ∙ append-nil xs
+
+-- A buffer that held orig begins with xs, and ys is put behind them.
+pub put-more : {X : Type 0} (orig xs ys out after : List X) (at : ℕ) → at ≡ length xs → out ≡ xs ++ drop (length xs) orig
+    → after ≡ take at out ++ (ys ++ drop (at + length ys) out) → after ≡ (xs ++ ys) ++ drop (length (xs ++ ys)) orig
+put-more orig xs ys out after at e was is =
+    let t : take at out ≡ xs = ap (take at) was ∙ take-at xs (drop (length xs) orig) at (sym e) in
+    let d : drop (at + length ys) out ≡ drop (length (xs ++ ys)) orig =
+    sym (drop-drop (length ys) at out)
+    ∙ ap (λ zs. drop (length ys) (drop at zs)) was
+    ∙ ap (drop (length ys)) (drop-at xs (drop (length xs) orig) at (sym e))
+    ∙ drop-drop (length ys) (length xs) orig
+    ∙ ap (λ n. drop n orig) (sym (length-append xs ys)) in
+    is ∙ ap (λ zs. zs ++ (ys ++ drop (at + length ys) out)) t ∙ ap (λ zs. xs ++ (ys ++ zs)) d ∙ sym (append-assoc xs ys (drop (length (xs ++ ys)) orig))

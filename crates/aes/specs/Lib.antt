@@ -1,0 +1,5 @@
+pub mod Steps
+pub mod KeyExpansion
+pub mod Cipher
+pub mod Words
+pub mod Columns

@@ -1,0 +1,5 @@
+pub mod Command
+pub mod Writing
+pub mod StatusWords
+pub mod Reply
+pub mod View

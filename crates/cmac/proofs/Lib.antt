@@ -1,0 +1,4 @@
+pub mod Joins
+pub mod Shift
+pub mod Links
+pub mod Checks

@@ -1,0 +1,3 @@
+pub mod Constants
+pub mod Words
+pub mod Compression

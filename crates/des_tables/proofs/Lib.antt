@@ -1,0 +1,5 @@
+pub mod Lists
+pub mod Bits
+pub mod Linear
+pub mod Words
+pub mod Merged

@@ -1,0 +1,15 @@
+pub mod Rows
+pub mod Derived
+pub mod Sounds
+pub mod Agree
+pub mod Ruling
+pub mod Persist
+pub mod Follow
+pub mod Written
+pub mod Stand
+pub mod Hashes
+pub mod Power
+pub mod Goes
+pub mod Again
+pub mod Named
+pub mod Empty

@@ -1,0 +1,16 @@
+pub mod Law
+pub mod Laws
+pub mod Judged
+pub mod Ruled
+pub mod Held
+pub mod Ledger
+pub mod Calls
+pub mod Request
+pub mod Associations
+pub mod Hashes
+pub mod Rows
+pub mod Run
+pub mod Step
+pub mod Associate
+pub mod Session
+pub mod Tables

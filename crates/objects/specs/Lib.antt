@@ -1,0 +1,5 @@
+pub mod Joined
+pub mod Fields
+pub mod Asked
+pub mod Laws
+pub mod Examples

@@ -1,0 +1,3 @@
+pub mod Suites
+pub mod Sealing
+pub mod Lent

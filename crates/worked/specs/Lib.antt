@@ -1,0 +1,4 @@
+pub mod Bench
+pub mod Runs
+pub mod Random
+pub mod Worked

@@ -1,0 +1,260 @@
+-- Two runs of sixty calls that were drawn at random, with the answers that a model in another language gave.
+use mathlib.Core.List.{List, [], _∷_}
+use Rattle.law.specs.Calls.{Call, load, power-on, power-off, command, Answer, not-taken, powered, loaded, refused-host, replied}
+use Rattle.worked.specs.Bench.{bytes-in}
+
+abbrev pub mixed-calls : List Call
+mixed-calls =
+    power-on ∷
+    power-off ∷
+    load (bytes-in 185 0x7265663d424432343643313844353530314244303130393633453732413544313236464535383431383538443646453942350a6b65793d313634443737313244303141464235393734463033413241334134303634363339373244343931364641423343343038373332323943373335313838434442380a7765616b3d310a6d6173746572733d310a636f6e6e656374696f6e733d310a7472616e73616374696f6e733d31383434363734343037333730393535313631350a) ∷
+    load (bytes-in 204 0x7265663d43454442444630383431333732324132423338303735414143393732394244424242444537424245433136384341324334414134463434393745374135344431443242353632384542333134463443460a6b65793d414542453738343939424135354143303546453033464542454537333333463833363434344336323138453834304334393244433446314237423337453841450a7765616b3d300a6d6173746572733d36353533350a636f6e6e656374696f6e733d330a7472616e73616374696f6e733d300a) ∷
+    power-on ∷
+    command (bytes-in 52 0x007301802f732d8128cedbdf08413722a2b38075aac9729bdbbbde7bbec168ca2c4aa4f4497e7a54d1d2b5628eb314f4cf820103) (bytes-in 32 0x6e014b62b52751dd206ee0d2ae6c84a6c6c853879cb31dd7d956f01a93f458ab) 258 64 ∷
+    command (bytes-in 28 0x0073028017732a83106e014b62b52751dd206ee0d2ae6c84a68510d6) (bytes-in 32 0x28d15518058ca8833c2561767426fe69e3185a0de5a620f4175f801720239a88) 258 64 ∷
+    command (bytes-in 26 0x007302001592bb8c4b29db473e11a6e86c04da6e8601ff8701ff) (bytes-in 32 0xd27fe3c976c1e84a4d5839206febea9c0dfe79f9fe254175e712d1e00259436a) 258 64 ∷
+    command (bytes-in 49 0x007302802c732a83106e014b62b52751dd1d6ee0d2ae6c84a685103a0719bf563debc94bf61dcb3908fb508601038701ff) (bytes-in 32 0x112d3c7a138fa10c69feec83ff87d5709d26cbe103fedd815619002a6d35c94e) 258 64 ∷
+    command (bytes-in 49 0x007302802c732a83106e014b62b52751dd206ee0d2ae6c84a685103a0719bf563debc94bf61dcb3908fb508601038701ff) (bytes-in 32 0x05c580deac023b9e82c23891f877d738974918fd90923766e00124eb29442cf2) 258 64 ∷
+    command (bytes-in 5 0x007302a03c) (bytes-in 32 0x47b9871c697a26841422047c9966d49c7017a6b3cd91304a1dc93c06a598964e) 258 64 ∷
+    command (bytes-in 36 0x007301801f73811c8117bd246c18d5501bd010963e72a5d126fe5841858d6fe9b5820101) (bytes-in 32 0x112d3c7a138fa10c69feec83ff87d5709d26cbe103fedd815619002a6d35c94e) 258 64 ∷
+    command (bytes-in 5 0x007301a03c) (bytes-in 32 0x865fe82b11af493570ba5e352f5b6de9f4ab539e6a5d92f171282bd65f2cd7d8) 258 64 ∷
+    command (bytes-in 5 0x007301a000) (bytes-in 32 0x9a987fcf571d046368296d74ee5dcc523a9a6af60e447127faaf904db66be0df) 258 64 ∷
+    command (bytes-in 5 0x007302a004) (bytes-in 32 0x569ec74af231d0a624d008126f1e6347952cd3c2d3718628e3bcf40972d42589) 258 64 ∷
+    command (bytes-in 24 0x0073018013732d8128cedbdf08413722a2b38075aac9729b) (bytes-in 32 0x27cd240460a0912b226dd48d168179c0cfa41682de0cbce622db28bb79fdce0c) 258 64 ∷
+    command (bytes-in 7 0x0073010002dbbb) (bytes-in 32 0x5be6e0d426b3e2a39b91e7ea1c5546614d5af16a0098cc9f8fc235bbeaf9fd80) 258 64 ∷
+    command (bytes-in 10 0x0073010005de7bbec168) (bytes-in 32 0x6bb82c9c1686f2993dafde10cc77af2643df5deb6a12be4a610127400abc39b8) 1 64 ∷
+    command (bytes-in 14 0x0073010009ca2c4aa4f4497e7a54) (bytes-in 32 0x103e0c36d0ecacf878092327bbf728b1c9265697c033c46f757de7d0bc180b57) 300 64 ∷
+    command (bytes-in 17 0x007301000cd1d2b5628eb314f4cf820102) (bytes-in 32 0xcb76a3ae9109050692783d3ccf556e5fd4593c157df5179cae1f1b45d708f9a3) 258 64 ∷
+    command (bytes-in 46 0x007303802973278810d27fe3c976c1e84a4d5839206febea9c9001108d101a8e3c8c4bb066a45ba8192d3b023d07) (bytes-in 32 0xc40a467833da3606ad22e7038ce122638d4d79e2c3a5762965773fcc242fb802) 258 64 ∷
+    command (bytes-in 5 0x007303a000) (bytes-in 32 0xd9ceb0a370aea6a7796b689dcc57bc69c19f01b0aa69baaa371626315c2491bd) 258 64 ∷
+    command (bytes-in 5 0x0073032001) (bytes-in 32 0x1e31272b2f36897f4c24bad95003bfd325d238ffb84c6e49f54880698fa42749) 258 64 ∷
+    command (bytes-in 5 0x007303a001) (bytes-in 32 0x4940ac81b2ee16130fc379df3d15e9d513bec80838f8e339c76f4faabac3f0a8) 258 64 ∷
+    command (bytes-in 39 0x007302802273812983106e014b62b52751dd206ee0d2ae6c84a685109fbb4ff733a20a8d08cb3d) (bytes-in 32 0x86d819492249510aea76a9e3b57d636c17655d76d11b60692bf3c0a577113374) 258 64 ∷
+    command (bytes-in 11 0x007302000670af72db8601) (bytes-in 32 0xd2ee6eb87acd85c1360df0b391eca157d59378df109ace5558eb2cd37f2dfc85) 258 64 ∷
+    command (bytes-in 9 0x007302000406870101) (bytes-in 32 0xcf840132240b2fadb27a52d81a1641686ae30893c5dff77315c07a44b83f816d) 258 64 ∷
+    command (bytes-in 5 0x007300a00a) (bytes-in 32 0x5d6024437a8efcf453e4d984159063366d5a4988aae95895c7f03cbbeb5a36ee) 258 64 ∷
+    command (bytes-in 5 0x0073022004) (bytes-in 32 0xb901fbef7f7dcc00a9c483a520f14cdceaf1a716a7fb22faf2b62769eda36df0) 258 64 ∷
+    command (bytes-in 46 0x00730380297327881005c580deac023b9e82c23891f877d7389001118d103c2ded5ad6f9a81fb76630bbdab34d8d) (bytes-in 32 0x06d3e24059496df3623416dbefe2cd3338ee48211b086402c25746cc98d90dc5) 258 64 ∷
+    command (bytes-in 5 0x007303a015) (bytes-in 32 0x6fab185324a9acb9379af77994932e35937f2cee205897166a4636bcee278be6) 258 64 ∷
+    command (bytes-in 8 0x0075400d03000000) (bytes-in 32 0xfb792e9990004d9b561ff1a73b50c628ea1c6570ebed8a018c1a259d7274bc9f) 258 64 ∷
+    command (bytes-in 8 0x0075400c03000000) (bytes-in 32 0x59c2bd012223856712d36fa49fa08b1aed75759f657e51d5e0f3fdfed03fa5c6) 1000 64 ∷
+    command (bytes-in 8 0x0075400c03000000) (bytes-in 32 0xb7b2add27873b1bf1fa1ce3b097d3f88d14c423ab02b5c0130881e3c971767b5) 258 64 ∷
+    command (bytes-in 8 0x0075400b03000000) (bytes-in 32 0x7e339688dc0ebff0a2416f56f55966afa80842db62d62e09f5b80beda07377ae) 258 64 ∷
+    command (bytes-in 8 0x0075400903001500) (bytes-in 32 0x2f4d6a6e7e2a5b9a73af2c9d3941b38f016b1632d1b90c35afb695ffc960da1b) 258 64 ∷
+    command (bytes-in 8 0x0075400903dc0200) (bytes-in 32 0xc9b7bbd675df713e987a5306cecae783f15bd9e50dbd55cd1deff8ebc40e4237) 258 64 ∷
+    command (bytes-in 8 0x0075400803107a09) (bytes-in 32 0xd28b8770b3d0ba1ca17f7986be56ecb1eff59cd09ade0babd9ff615b33ba9f8b) 258 64 ∷
+    command (bytes-in 8 0x007540070367b5ae) (bytes-in 32 0x1385c7897d8e0643856507ccdb2da2ad2dc65ea2df034903c203b55b20f284c7) 258 64 ∷
+    command (bytes-in 8 0x00754006032e5e28) (bytes-in 32 0x26f9b3cb22f6ffeb75475916dae2f88090c923260b42d9cb16a3f9d6e8e4d960) 258 64 ∷
+    command (bytes-in 8 0x0075400503c10b96) (bytes-in 32 0xc1450e923aa9ab4746868bc98d04a14ecc5102d5be0b3b6c11aeb2aad19a4314) 258 200 ∷
+    command (bytes-in 8 0x00754004037722ca) (bytes-in 32 0xdf3a34796a09aec8b667f9bed5fc8a0de0a8cc7c3db11e2476a807c5ff2ce118) 258 64 ∷
+    command (bytes-in 8 0x0075400303f823fc) (bytes-in 32 0x70eaf7cf3656ce952391a03ac46845f6d505f9d1253e951aef4781d40bba0803) 258 64 ∷
+    command (bytes-in 8 0x0075400303f823fc) (bytes-in 32 0xde96333787249ba177260ffae4a1af7e96c0c9043f52f65916acb18fa515b83f) 258 64 ∷
+    command (bytes-in 8 0x0075400203fda06d) (bytes-in 32 0xc41f3fb8c536b6fed74c665ecb2e92b18da1ed805ef90f4b595846a412d73a01) 258 64 ∷
+    command (bytes-in 8 0x0075400103000000) (bytes-in 32 0x5e6ec3c90f28827f9cdf947842a3c1f89aaeeef78dcd82ed62ff609b4e8add72) 258 64 ∷
+    command (bytes-in 6 0x007540000100) (bytes-in 32 0x2eaa251ab9fb743f0cad023f1420bd1ecce8aee65084e41d75f91bc9ae4dc284) 258 64 ∷
+    command (bytes-in 13 0x00750003080000000000000000) (bytes-in 32 0xcb719501b2e682da6e341ba967fd75d580187201c453a4225e58ce8e5f0684b0) 258 64 ∷
+    command (bytes-in 13 0x007500020800000a00e2000005) (bytes-in 32 0x9a0cbae30a304cfb03ac5a1c2fd147bb407dd8b090b309bdfd8d289ad15e972d) 258 64 ∷
+    command (bytes-in 13 0x00750001080735d613fa27f062) (bytes-in 32 0xf8abb2b0fcaa5688250be8de06ef44360f9782ab5faa5ba52d739179a01e7c80) 258 64 ∷
+    command (bytes-in 13 0x00750000084000000000000000) (bytes-in 32 0x44050fa82b03d89041e1b84057c683bbc9101203cd23b9886da1c57be6a8aea8) 258 64 ∷
+    command (bytes-in 22 0x0075400111000000000000000000000500b206001012) (bytes-in 32 0x261c49187545c091b94c83e72bb7d3ab604f20d6c26bb1bacd2d52be86a72be1) 258 64 ∷
+    command (bytes-in 12 0x007540000737302100000000) (bytes-in 32 0x5858a00a699674d468c2d7fd02ee2737516b6afc6ca0c3436e94bdb952fad6d8) 258 64 ∷
+    command (bytes-in 5 0x0075420201) (bytes-in 32 0xc40a467833da3606ad22e7038ce122638d4d79e2c3a5762965773fcc242fb802) 258 64 ∷
+    command (bytes-in 22 0x0075400111000000000000000000000500ca000000a5) (bytes-in 32 0x889e908a26c1d12f2a3e63e6df5c44d375c91607d53178758e259292b6269b97) 258 64 ∷
+    command (bytes-in 12 0x007540000786d48400000000) (bytes-in 32 0x666d1dffe07f04cccd73644e917f29f6230b9a944ca7af6c89ae6a0faf775ec8) 258 64 ∷
+    command ([]) (bytes-in 32 0x5697a81df7a75418549ff4707bea84a217fdaec5b15130c6f5ac67cfad68037b) 258 64 ∷
+    command (bytes-in 13 0x00754004080000000000000000) (bytes-in 32 0x2b52245131d1eb96bd6c7bc2556a9ec393b6d34c6762c4c7e34e2a5c65169db5) 258 64 ∷
+    command (bytes-in 13 0x00754004080000000000000000) (bytes-in 32 0xb521268573bbac560a151f2e1714537c69bb7eb62db8dfa2d59b8bf5fe2be112) 258 64 ∷
+    command (bytes-in 13 0x007540030800001500dc060010) (bytes-in 32 0x5bea9220894ce3ac5122c85c13354e4f6e696ad85600ba56f6b46e66bf43917e) 258 64 ∷
+    []
+
+abbrev pub mixed-answers : List Answer
+mixed-answers =
+    powered ∷
+    powered ∷
+    loaded 0 ∷
+    loaded 0 ∷
+    powered ∷
+    replied (bytes-in 2 0x62f3) ∷
+    replied (bytes-in 2 0x63f1) ∷
+    replied (bytes-in 2 0x62f3) ∷
+    replied (bytes-in 2 0x6a88) ∷
+    replied (bytes-in 2 0x62f3) ∷
+    replied (bytes-in 62 0x733c881005c580deac023b9e82c23891f877d7388910974918fd90923766e00124eb29442cf28a01028b01048c103441907bfb68230ce3120815b1fc62f1) ∷
+    replied (bytes-in 2 0x6400) ∷
+    replied (bytes-in 2 0x6985) ∷
+    replied (bytes-in 2 0x6985) ∷
+    replied (bytes-in 2 0x6985) ∷
+    replied (bytes-in 2 0x63f1) ∷
+    replied (bytes-in 2 0x63f1) ∷
+    refused-host 5 ∷
+    replied (bytes-in 2 0x63f1) ∷
+    replied (bytes-in 2 0x63f1) ∷
+    replied (bytes-in 2 0x62f3) ∷
+    replied (bytes-in 7 0x73035301009000) ∷
+    replied (bytes-in 2 0x9000) ∷
+    replied (bytes-in 3 0x7362f1) ∷
+    replied (bytes-in 2 0x63f1) ∷
+    replied (bytes-in 2 0x63f1) ∷
+    replied (bytes-in 2 0x6a80) ∷
+    replied (bytes-in 12 0x73099101ff9201018f0162f1) ∷
+    replied (bytes-in 2 0x6a86) ∷
+    replied (bytes-in 2 0x62f3) ∷
+    replied (bytes-in 7 0x73035301409000) ∷
+    replied (bytes-in 2 0x9202) ∷
+    replied (bytes-in 2 0x9202) ∷
+    replied (bytes-in 2 0x9202) ∷
+    replied (bytes-in 2 0x9202) ∷
+    replied (bytes-in 2 0x6a86) ∷
+    replied (bytes-in 2 0x6a86) ∷
+    replied (bytes-in 2 0x6a86) ∷
+    replied (bytes-in 2 0x6a86) ∷
+    replied (bytes-in 2 0x6a86) ∷
+    replied (bytes-in 2 0x6a86) ∷
+    replied (bytes-in 2 0x6a86) ∷
+    replied (bytes-in 2 0x6a86) ∷
+    replied (bytes-in 2 0x6a86) ∷
+    replied (bytes-in 2 0x6a86) ∷
+    replied (bytes-in 2 0x6a86) ∷
+    replied (bytes-in 2 0x6a86) ∷
+    replied (bytes-in 2 0x9200) ∷
+    replied (bytes-in 2 0x9200) ∷
+    replied (bytes-in 2 0x9200) ∷
+    replied (bytes-in 2 0x6983) ∷
+    replied (bytes-in 2 0x6a86) ∷
+    replied (bytes-in 2 0x6a86) ∷
+    replied (bytes-in 2 0x6a86) ∷
+    replied (bytes-in 2 0x6a86) ∷
+    replied (bytes-in 2 0x6a86) ∷
+    replied (bytes-in 2 0x6700) ∷
+    replied (bytes-in 2 0x6a86) ∷
+    replied (bytes-in 2 0x6a86) ∷
+    replied (bytes-in 2 0x6a86) ∷
+    []
+
+abbrev pub busy-calls : List Call
+busy-calls =
+    power-on ∷
+    power-off ∷
+    power-on ∷
+    power-off ∷
+    power-on ∷
+    command (bytes-in 6 0x007301800173) (bytes-in 32 0x350816a7e63ef1aef00be50650eb5f9f5b4988da5ed0848301df55a136ec0f01) 258 64 ∷
+    command (bytes-in 9 0x007301000481288128) (bytes-in 32 0x81eaaeda8553c52e6e57dbac16b374602e5b2d0aadbbab7e105276f5f6691180) 258 64 ∷
+    command (bytes-in 28 0x00730100171f36159144092a8474ab83fc99a2f56589075f2892b2e2) (bytes-in 32 0x9be72736138039849e315a7365a8a0ab0cde70598daa65805ef8bf6be97b86de) 258 64 ∷
+    command (bytes-in 18 0x007301000d68ba020d79cee028ca8db92c95) (bytes-in 32 0x9e89f14b9dd8eee0ad3eb965d5d2d46ede1eed1360ab9733d5ad3a751bd07be8) 258 64 ∷
+    command (bytes-in 7 0x00730100025f1f) (bytes-in 32 0x653d8ea1ad93d1159fc68141bcce97af8f79e3d1f946d527124b1c26d686aaca) 258 64 ∷
+    command (bytes-in 5 0x007301a004) (bytes-in 32 0x4b3fd776861374cc9d258fcd335d4744f5553e0b9fe8fd950d9411d046050dcf) 258 64 ∷
+    command (bytes-in 34 0x007301801d731b811609a68ad292cfc69e363ec1ac8975ab698040ba47a4b4820101) (bytes-in 32 0x4a5da5d358929d413e675ba75ac2974542e7dd99c577b3062d6d556bbb3fd863) 258 64 ∷
+    command (bytes-in 52 0x007301802f732d81281f36159144092a8474ab83fc99a2f56589075f2892b2e268ba020d79cee028ca8db92c955f1fe6d3820103) (bytes-in 32 0xb96b0f8163f9a7f522ced15c3caa33baf099e12c614cd2b69904d0fe9133736c) 258 64 ∷
+    command (bytes-in 5 0x007301a000) (bytes-in 32 0x9e89f14b9dd8eee0ad3eb965d5d2d46ede1eed1360ab9733d5ad3a751bd07be8) 258 64 ∷
+    command (bytes-in 35 0x007302801e732a8310566bfdc23e93468ee3b453bb523d568c851090273c3822600f73) (bytes-in 32 0xf7628a24ad3228b0eb8489c37959a8c91f4a8885aec1de3c2904db0283f405b4) 258 64 ∷
+    command (bytes-in 19 0x007302000eee20cdc5432594d1860102870102) (bytes-in 32 0x5ead2f746e99265f4f13b191a74bd3aadb7e516b97288f5644a26601025621f0) 258 64 ∷
+    command (bytes-in 5 0x007302a0ff) (bytes-in 32 0x4ca7ac075c42b783da86b6aa00c67743ae8efe3fbaefee7302bb64a04f88657d) 258 64 ∷
+    command (bytes-in 50 0x007302802d73812a8310a57e9511b5c4cee3b11bfdd034c35c1f8510bf4d0f5391e052246081071d0e1de7ca860100870105) (bytes-in 32 0x22d14e9cb9fdcb900cc7d54ea3d45bfb2f781d6c1cdf1198a2540e6ca3c3b7cf) 258 64 ∷
+    command (bytes-in 5 0x007302a0ff) (bytes-in 32 0xdf1c64711e652a674d0c105db341039d5b22bb5bf9875a309f008dc02a58ed52) 258 64 ∷
+    command (bytes-in 49 0x007302802d73812a8310a57e9511b5c4cee3b11bfdd034c35c1f8510bf4d0f5391e052246081071d0e1de7860100870105) (bytes-in 32 0xa84453d22c149ddc25fef561562d44931bac0f4afe1d5409735b68fa7ad09a58) 258 64 ∷
+    command (bytes-in 36 0x007301801f73811b8116dcf7ad3a73c81d371dda7b56b5160b263de82e283f35820101e1) (bytes-in 32 0x93a834095397d1541255b97a9f1ddcca0fc5291bce59f0f3d2b973c312ace7b4) 258 64 ∷
+    command (bytes-in 5 0x0073012001) (bytes-in 32 0xfbafe1f0bdb2e382ef3060ec46802a0d0934b93912a384f3acbdf35934144434) 258 64 ∷
+    command (bytes-in 7 0x00730480027305) (bytes-in 32 0x8c786d2cae4f40938270a2ef2db8c8752a306ede7b47fe45b0e2f7a894e83af8) 258 64 ∷
+    power-off ∷
+    load (bytes-in 164 0x7265663d44434637414433413733433831443337314444413742353642353136304232363344453832453238334633350a6b65793d363844393339453644393739393945313943443734383745394543393239324238333130334134353245374643434639384436304136384438384342463332330a7765616b3d300a6d6173746572733d310a636f6e6e656374696f6e733d330a7472616e73616374696f6e733d310a) ∷
+    load (bytes-in 115 0x6b65793d384142464143323034303134374543394237424335394436394238373144424134413631333835413132443336413132353544304337413443384337443246390a7765616b3d300a6d6173746572733d300a636f6e6e656374696f6e733d350a7472616e73616374696f6e733d390a) ∷
+    power-on ∷
+    command (bytes-in 4 0x0075c201) (bytes-in 32 0x5ef278347656046e6a84378f26642d73185b78d08d901de79e63bf2fb2c4fe62) 258 64 ∷
+    command (bytes-in 27 0x0073018016731b8116dcf7ad3a73c81d371dda7b56b5160b263de8) (bytes-in 32 0x235acfe5d87f75fad4678e0418f3cbde0f6d9c641e6f46e79fee0b7850ce3abf) 258 64 ∷
+    command (bytes-in 11 0x00730100062e283f358201) (bytes-in 32 0x9ae5de41ce5f9148c426bab35416d5cc96b41501d5048e5a4a854b77ce7cf301) 258 64 ∷
+    command (bytes-in 6 0x007301000101) (bytes-in 32 0xe82ef52578c29793c19eb9ec2843d2cba0507adfc2f88fbb32f2be437d1ac868) 258 64 ∷
+    command (bytes-in 5 0x007301a03c) (bytes-in 32 0x2d2a548463d3dc788a166a0063ce14b83ce37b5ab1053fd2431a3258d4fafad2) 258 64 ∷
+    command (bytes-in 5 0x007301200d) (bytes-in 32 0x5391f00d23afbece057a915d05c15b44647015193a3b18905ffad944d3510f1d) 258 64 ∷
+    command (bytes-in 5 0x007301203c) (bytes-in 32 0x71862c54e5d8d1c308e623fa1adf73264d51d904011ae6a238d02d03cbbd42a7) 258 64 ∷
+    command (bytes-in 42 0x0073048025732488105adc7323884484ed0e9f35f3ecc9f94b8e10f4787a3c40a9c850dc5fb5a979ddcd) (bytes-in 32 0x9a3125b3ba208e4f5a3be55f13cf97dbfd1fd42bba9c961870a64886f9023077) 258 64 ∷
+    command (bytes-in 6 0x0073040001c9) (bytes-in 32 0xe137610fc87bc3aa30b6350019db4c6ca17272b89d820f82939827537a532d8c) 258 64 ∷
+    command (bytes-in 49 0x007302802c732a8310c82ef52578c29793c19eb9ec2843d2cb85106882c05569500315da886886c223a34c860107870104) (bytes-in 32 0x976bd5ef4365222fc28de43ec9a7a6aed7d579b3d1b11fd3eea8ace4a5c5d8f6) 258 64 ∷
+    command (bytes-in 49 0x007302802c732a8310e82ef52578c29793c19eb9ec2843d2cb85106882c05569500315da886886c223a34c860107870104) (bytes-in 32 0x776043b995f12e9e6d75f4bd5a7433335e1deeaf3d7ebb87f946470aca0401a1) 258 64 ∷
+    command (bytes-in 5 0x007302a00a) (bytes-in 32 0x4023c190e3c1d3fc7a2c776993647e59494359ba7e666d7b7e2ffeb27c81bd3a) 258 64 ∷
+    command (bytes-in 21 0x007303801073278810776043b995f12e9e6d75f4bd) (bytes-in 32 0x3f0024dc20fe86842c13b1c65ec9e19494939d829c050e99ff05267a195fafad) 258 64 ∷
+    command (bytes-in 19 0x007303000e5a7433339001288d105c3d17da76) (bytes-in 32 0x5df5d5fb2c1e3126a7cb60292105bbcfe76c4336b283d97b82047c2ab8a988ca) 258 64 ∷
+    command (bytes-in 17 0x007303000ce52c93a7693921bf3613022e) (bytes-in 32 0xe9eb55b3a1ba81cf1bf1042b3124d74dc23dd657524c786cc7a0a9a99860f1aa) 258 64 ∷
+    command (bytes-in 5 0x007305a001) (bytes-in 32 0x1379d704de661ad4455f3a15e09fa535869672b0401965dc69e039c46e8fcc53) 258 64 ∷
+    command (bytes-in 6 0x007580ff0107) (bytes-in 32 0x99ca269ba4d37b4babfe98189226405fe82c89dde17a15adfcacb72f081a90e9) 258 64 ∷
+    command (bytes-in 46 0x007303802973278810776043b995f12e9e6d75f4bd5a7433339001118d105c3d17da76e52c93a7693921bf361302) (bytes-in 32 0xff1232d2b42dd241b00d205f8f221760b084fa3b22b6c2a458ccb4b408af7458) 258 64 ∷
+    command (bytes-in 5 0x007303a001) (bytes-in 32 0xeb49fadb7fb9a7b547a435b7cf3a2e3cffdfe9111af58fb2d71aa22bb6ffad61) 258 64 ∷
+    command (bytes-in 5 0x0073032001) (bytes-in 32 0xce87d02f6f320b1d17af4e9c31ede3c7bc90a0a7011f34360a6ee92bc144ebbd) 258 64 ∷
+    command (bytes-in 5 0x007303a004) (bytes-in 32 0xe5d7123825a06ec6c1e421cc0ad560901cac6c6280849d66fdbd08fb91f81b19) 258 64 ∷
+    command (bytes-in 8 0x0073028003732a83) (bytes-in 32 0x8478ab0c8f345f89cdfc61d50f1a0e2b013181549e4bfdd180072108cd445c8b) 258 64 ∷
+    command (bytes-in 33 0x007302001c10e82ef52578c29793c19eb9ec2843d2cb8510af453f02f09f0ed171) (bytes-in 32 0xc5f78822b8bf6790ce52a465902d1580d659e2c3f88801e285eb25170af262c6) 258 64 ∷
+    command (bytes-in 18 0x007302000d12655760046ea2860105870105) (bytes-in 32 0x1078eb7340065c7e5ba2ccfbfcfb5797051f5f7f9a4da9cb6d7c49d19121ebea) 258 64 ∷
+    command (bytes-in 5 0x007302a001) (bytes-in 32 0x092cf3976e198054915d5d8221c7fc3956133b9c7db7e6da773e61ea3625be64) 258 64 ∷
+    command (bytes-in 22 0x0075000111000000000000000000000a80e200000500) (bytes-in 32 0x032b8bf7fe2045c700b9bc073ad051e2c446e2fbe1d5649904edfb3684d7cdaa) 259 65 ∷
+    command (bytes-in 20 0x007500000f60a3699ddb3a87fd00000000000000) (bytes-in 32 0x1c8da4638a6a7896a1bb7bb11718f3495c50c12ff7a978612428110e0ba72ab0) 258 64 ∷
+    command (bytes-in 5 0x0075010010) (bytes-in 32 0x4e27288f5af309a6f334c1fa1545e6a6df85a8b68e268e0f4989ebfacba7ddd6) 258 64 ∷
+    command (bytes-in 5 0x0075010100) (bytes-in 32 0x75175f552414c4427633a3cee95fd61646c45a57fdb0735606159ea740627bb2) 259 64 ∷
+    command (bytes-in 5 0x0075010208) (bytes-in 32 0x6aba142092f67b703d5eeeca1c4a7838f194455b8136935aa9360985e13161f5) 258 64 ∷
+    command (bytes-in 5 0x0075010300) (bytes-in 32 0x5396393496049045b111dc25fe00aee44cd2d2bda9b863094edc63500a3fd72c) 258 64 ∷
+    command (bytes-in 34 0x007301801d731b8116dcf7ad3a73c81d371dda7b56b5160b263de82e283f358201ff) (bytes-in 32 0x4b245d87f42566b80f2e19e24eb0dc9aeb2545f4bca2d2de6c6e0ae0442f8a08) 258 64 ∷
+    command (bytes-in 7 0x0073018002732d) (bytes-in 32 0xda93e16ffcda191eb2096208c136d86b252c4f763bff5a2e83bd21739ac7726d) 258 64 ∷
+    []
+
+abbrev pub busy-answers : List Answer
+busy-answers =
+    powered ∷
+    powered ∷
+    powered ∷
+    powered ∷
+    powered ∷
+    replied (bytes-in 2 0x63f1) ∷
+    replied (bytes-in 2 0x63f1) ∷
+    replied (bytes-in 2 0x63f1) ∷
+    replied (bytes-in 2 0x63f1) ∷
+    replied (bytes-in 2 0x6a80) ∷
+    replied (bytes-in 2 0x6985) ∷
+    replied (bytes-in 2 0x6400) ∷
+    replied (bytes-in 2 0x6400) ∷
+    replied (bytes-in 2 0x6985) ∷
+    replied (bytes-in 2 0x63f1) ∷
+    replied (bytes-in 2 0x6a88) ∷
+    replied (bytes-in 2 0x6985) ∷
+    replied (bytes-in 2 0x6a88) ∷
+    replied (bytes-in 2 0x6985) ∷
+    replied (bytes-in 2 0x6700) ∷
+    replied (bytes-in 2 0x6a80) ∷
+    replied (bytes-in 2 0x6985) ∷
+    replied (bytes-in 2 0x63f1) ∷
+    powered ∷
+    loaded 0 ∷
+    loaded 1 ∷
+    powered ∷
+    replied (bytes-in 2 0x6a86) ∷
+    replied (bytes-in 2 0x63f1) ∷
+    replied (bytes-in 2 0x63f1) ∷
+    replied (bytes-in 2 0x62f3) ∷
+    replied (bytes-in 25 0x73158310e82ef52578c29793c19eb9ec2843d2cb8401019000) ∷
+    replied (bytes-in 2 0x9000) ∷
+    replied (bytes-in 2 0x9000) ∷
+    replied (bytes-in 2 0x63f1) ∷
+    replied (bytes-in 2 0x9000) ∷
+    replied (bytes-in 2 0x6a88) ∷
+    replied (bytes-in 2 0x62f3) ∷
+    replied (bytes-in 12 0x733c8810776043b995f162f1) ∷
+    replied (bytes-in 2 0x63f1) ∷
+    replied (bytes-in 2 0x63f1) ∷
+    replied (bytes-in 2 0x6a80) ∷
+    replied (bytes-in 2 0x6a86) ∷
+    replied (bytes-in 2 0x6985) ∷
+    replied (bytes-in 2 0x62f3) ∷
+    replied (bytes-in 3 0x7362f1) ∷
+    replied (bytes-in 3 0x0362f1) ∷
+    replied (bytes-in 6 0x7303530162f1) ∷
+    replied (bytes-in 2 0x63f1) ∷
+    replied (bytes-in 2 0x63f1) ∷
+    replied (bytes-in 2 0x62f3) ∷
+    replied (bytes-in 3 0x7362f1) ∷
+    replied (bytes-in 2 0x9200) ∷
+    replied (bytes-in 2 0x9201) ∷
+    replied (bytes-in 2 0x6700) ∷
+    replied (bytes-in 9 0x000000000000009200) ∷
+    replied (bytes-in 2 0x6a86) ∷
+    replied (bytes-in 2 0x6a86) ∷
+    replied (bytes-in 2 0x6983) ∷
+    replied (bytes-in 2 0x63f1) ∷
+    []
