@@ -8,21 +8,14 @@ use borrow.Rule.Slice.PartMut.{putMid}
 use Rattle.std.proofs.shelf.Lists.{take-more-set, length-set}
 use Rattle.std.proofs.shelf.Parts.{take-putMid}
 use Rattle.bytes.specs.Numbers.{octets}
-use Rattle.bytes.proofs.Digits.{octets-eight, length-octets}
+use Rattle.bytes.proofs.Digits.{length-octets, octets-low}
 use Rattle.sha256.specs.Digest.{zeros, padding}
 
-pub octets-low : (x : ℕ) → octets 8 (x % 2 ^ 64) ≡ octets 8 x
-octets-low x =
-    let y : ℕ = x % 2 ^ 64 in
-    let e7 : y / 72057594037927936 % 256 ≡ x / 72057594037927936 % 256 = omega arith in
-    let e6 : y / 281474976710656 % 256 ≡ x / 281474976710656 % 256 = omega arith in
-    let e5 : y / 1099511627776 % 256 ≡ x / 1099511627776 % 256 = omega arith in
-    let e4 : y / 4294967296 % 256 ≡ x / 4294967296 % 256 = omega arith in
-    let e3 : y / 16777216 % 256 ≡ x / 16777216 % 256 = omega arith in
-    let e2 : y / 65536 % 256 ≡ x / 65536 % 256 = omega arith in
-    let e1 : y / 256 % 256 ≡ x / 256 % 256 = omega arith in
-    let e0 : y % 256 ≡ x % 256 = omega arith in
-    octets-eight y ∙ (cc) ∙ sym (octets-eight x)
+-- Eight bytes hold a number modulo 2 ^ 64.
+pub octets-mod : (x : ℕ) → octets 8 (x % 2 ^ 64) ≡ octets 8 x
+octets-mod x =
+    let e : x / 2 ^ 64 * 256 ^ 8 + x % 2 ^ 64 ≡ x = omega arith in
+    sym (octets-low 8 (x / 2 ^ 64) (x % 2 ^ 64)) ∙ ap (octets 8) e
 
 -- A tail of 72 bytes with 80 first, zeros behind it, and the length behind them.
 pub padding-put : (tail none bits : List ℕ) (n z k m : ℕ) → length tail ≡ 72 → z ≡ zeros n → k ≡ z → none ≡ replicate (length (take k (drop 1 (set tail 0 128)))) 0 → bits ≡ octets 8 (8 * n)
@@ -50,5 +43,5 @@ padding-low n =
     let m : ℕ = n % 2 ^ 64 in
     let z : zeros m ≡ zeros n = omega arith in
     let e : (8 * m) % 2 ^ 64 ≡ (8 * n) % 2 ^ 64 = omega arith in
-    let o : octets 8 (8 * m) ≡ octets 8 (8 * n) = sym (octets-low (8 * m)) ∙ ap (octets 8) e ∙ octets-low (8 * n) in
+    let o : octets 8 (8 * m) ≡ octets 8 (8 * n) = sym (octets-mod (8 * m)) ∙ ap (octets 8) e ∙ octets-mod (8 * n) in
     ap (λ i. 0x80 ∷ (replicate i 0 ++ octets 8 (8 * m))) z ∙ ap (λ y. 0x80 ∷ (replicate (zeros n) 0 ++ y)) o
