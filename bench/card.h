@@ -14,9 +14,6 @@ uint32_t card_crc32(const uint8_t *message, size_t message_len, uint8_t *out, si
 uint32_t card_sha256(const uint8_t *message, size_t message_len, uint8_t *out, size_t out_len);
 uint32_t card_hmac(const uint8_t *key, size_t key_len, const uint8_t *message, size_t message_len, uint8_t *out, size_t out_len);
 
-// libsealer_c.a. Each answers a length, or the number of a refusal, which is below 9.
-size_t card_seal(uint8_t cipher, uint8_t mechanism, const uint8_t *keys, size_t keys_len, uint8_t direction, uint64_t number,
-                 const uint8_t *body, size_t body_len, uint8_t *out, size_t out_len);
-size_t card_open(uint8_t cipher, uint8_t mechanism, const uint8_t *keys, size_t keys_len, const uint8_t *string, size_t string_len,
-                 uint8_t *out, size_t out_len);
+// libsealer_c.a
+#include "../c/card_sealer.h"
 #endif
