@@ -51,3 +51,27 @@ pub fn unhex(heap: Global, text: &str) -> Result<Option<Vec<u8>>, AllocError> {
         Ok(None)
     }
 }
+
+#[cfg(test)]
+mod tests {
+    use super::*;
+    use std::test::*;
+
+    #[test]
+    fn bytes_are_shown(rt: LibcRuntime) -> Result<(), Fail> {
+        let heap = rt.alloc();
+        check(spaced(heap, &[0x00, 0x73, 0xA0])?.as_str() == "00 73 A0")?;
+        check(spaced(heap, &[])?.as_str() == "")?;
+        check(joined(heap, &[0x0F, 0xF0])?.as_str() == "0FF0")?;
+        check(joined(heap, &[])?.as_str() == "-")
+    }
+
+    #[test]
+    fn digits_are_read(rt: LibcRuntime) -> Result<(), Fail> {
+        let heap = rt.alloc();
+        check(unhex(heap, "0AFF")?.ok_or("refused")?.as_slice() == &[0x0A, 0xFF])?;
+        check(unhex(heap, "-")?.ok_or("refused")?.is_empty())?;
+        check(unhex(heap, "0a")?.is_none())?;
+        check(unhex(heap, "0AF")?.is_none())
+    }
+}

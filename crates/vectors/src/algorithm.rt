@@ -22,6 +22,8 @@ pub enum Algorithm {
     Sha,
     Hmac,
     Expansion,
+    Load,
+    Object,
     Seal(Suite),
     Open(Suite),
 }
@@ -45,6 +47,8 @@ impl Algorithm {
             "sha256" => Some(Algorithm::Sha),
             "hmac-sha256" => Some(Algorithm::Hmac),
             "expansion" => Some(Algorithm::Expansion),
+            "load" => Some(Algorithm::Load),
+            "object" => Some(Algorithm::Object),
             _ => sealed(name),
         }
     }

@@ -1,5 +1,6 @@
 // Runs the published vectors that standard input names, a line each, and says of each what was expected and what came out.
 mod algorithm;
+mod readings;
 mod run;
 mod seals;
 mod vector;

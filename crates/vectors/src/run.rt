@@ -1,5 +1,7 @@
 // Running a vector: what its algorithm makes of its key and input.
 use crate::algorithm::Algorithm;
+use crate::readings::load;
+use crate::readings::object;
 use crate::seals::opened;
 use crate::seals::sealed;
 use aes::Aes128;
@@ -148,6 +150,8 @@ pub fn run(heap: Global, algorithm: Algorithm, key: &[u8], input: &[u8]) -> Outc
         Algorithm::Sha => copied(heap, &digest_of(input)),
         Algorithm::Hmac => copied(heap, &mac(key, input)),
         Algorithm::Expansion => expansion(heap, key, input),
+        Algorithm::Load => load(heap, input),
+        Algorithm::Object => object(heap, input),
         Algorithm::Seal(suite) => sealed(heap, suite, key, input),
         Algorithm::Open(suite) => opened(heap, suite, key, input),
     }
