@@ -1,6 +1,6 @@
 -- The definitions give the example vectors of FIPS 197, appendices B and C.1.
 use Rattle.std.proofs.Common.{◌≡◌, ℕ, List, [], ◌∷◌, refl}
-use Rattle.bytes.specs.Bytes.{xors}
+use Rattle.byte_lists.specs.Bytes.{xors}
 use Rattle.sbox.specs.Field.{mul}
 use Rattle.sbox.specs.Tables.{sbox, inv_sbox}
 use Rattle.aes.specs.Steps.{sub_bytes, inv_sub_bytes, shift_rows, inv_shift_rows, row, columns}

@@ -1,8 +1,8 @@
 -- The steps of a round on four words, one for each column, are the steps on their 16 bytes.
 use Rattle.std.proofs.Common.{◌≡◌, ℕ, List, [], ◌∷◌, ◌++◌}
 use lib.Bits.{bit_xor}
-use Rattle.bytes.specs.Bytes.{xors}
-use Rattle.bytes.specs.Numbers.{octets}
+use Rattle.byte_lists.specs.Bytes.{xors}
+use Rattle.byte_lists.specs.Numbers.{octets}
 use Rattle.aes.specs.Steps.{sub_bytes, shift_rows, mix_columns, columns, inv_sub_bytes, inv_shift_rows, inv_mix_columns}
 use Rattle.aes.specs.Words.{bytes_of, gathered}
 use Rattle.aes.proofs.WordBytes.{octets_xor}

@@ -1,7 +1,7 @@
 -- A column times a matrix, from the products of each of its bytes with the matrix's first column.
 use Rattle.std.proofs.Common.{◌≡◌, ℕ, List, [], ◌∷◌, sym, ap, ◌∙◌}
-use Rattle.bytes.specs.Bytes.{xors}
-use Rattle.bytes.specs.Numbers.{octets}
+use Rattle.byte_lists.specs.Bytes.{xors}
+use Rattle.byte_lists.specs.Numbers.{octets}
 use Rattle.sbox.specs.Field.{mul, scaled}
 use Rattle.aes.specs.Steps.{row, columns}
 use Rattle.aes.specs.Words.{turned}

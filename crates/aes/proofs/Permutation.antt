@@ -1,7 +1,7 @@
 -- AES under a key of bytes: each direction keeps blocks and undoes the other.
 use Rattle.std.proofs.Common.{ℕ, zero, suc, ◌+◌, ◌-◌, ◌*◌, ◌/◌, ◌%◌, ◌<◌, Bool, true, false, cond, eqb, List, [], ◌∷◌, ◌++◌, drop, replicate, lit<}
-use Rattle.bytes.specs.Bytes.{Bytes, xors}
-use Rattle.bytes.proofs.Facts.{bytes_append, bytes_cons, bytes_drop, bytes_take, bytes_xors, bytes_zeros}
+use Rattle.byte_lists.specs.Bytes.{Bytes, xors}
+use Rattle.byte_lists.proofs.Facts.{bytes_append, bytes_cons, bytes_drop, bytes_take, bytes_xors, bytes_zeros}
 use Rattle.cipher.specs.Permutes.{Permutes}
 use Rattle.sbox.specs.Tables.{sub}
 use Rattle.sbox.proofs.Rule.{sub_byte}

@@ -1,6 +1,6 @@
 -- The loops over the rounds, and the round keys as words.
 use Rattle.std.proofs.Common.{◌≡◌, ℕ, suc, ◌+◌, ◌-◌, ◌*◌, ◌<◌, ◌≤◌, List, [], ◌∷◌, length, get_or, take, drop, sym, refl, ap, ◌∙◌, add-one, arith, length-drop}
-use Rattle.bytes.specs.Bytes.{xors}
+use Rattle.byte_lists.specs.Bytes.{xors}
 use Rattle.aes.specs.Cipher.{round_key, round, final_round, inv_round, inv_final_round, rounds, inv_rounds, encrypted, decrypted}
 use Rattle.aes.specs.Words.{bytes_of}
 use Rattle.aes.specs.Parts.{taken_four, bytes_dropped, bytes_taken}

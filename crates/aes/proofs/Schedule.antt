@@ -3,9 +3,9 @@ use Rattle.std.proofs.Common.{◌≡◌, ℕ, ◌+◌, ◌-◌, ◌<◌, ◌≤�
 use lib.Bits.{bit_xor}
 use Rattle.std.specs.List.{range_with_len}
 use Rattle.std.proofs.lemmas.List.{drop_more, take_more_set, get_or-take, append-nil}
-use Rattle.bytes.specs.Bytes.{xors}
-use Rattle.bytes.specs.Numbers.{octets}
-use Rattle.bytes.proofs.Tables.{every_at, small_at}
+use Rattle.byte_lists.specs.Bytes.{xors}
+use Rattle.byte_lists.specs.Numbers.{octets}
+use Rattle.byte_lists.proofs.Tables.{every_at, small_at}
 use Rattle.aes.specs.KeyExpansion.{word, x_power, rcon, joining, extended}
 use Rattle.aes.specs.Words.{bytes_of}
 use Rattle.aes.proofs.WordBytes.{octets_xor, made, octets_made}

@@ -2,9 +2,9 @@
 use Rattle.std.proofs.Common.{◌≡◌, ℕ, zero, suc, ◌+◌, ◌-◌, ◌*◌, ◌/◌, ◌%◌, ◌^◌, ◌<◌, ◌≤◌, [], ◌∷◌, sym, ap, ◌∙◌, arith}
 use lib.Bits.{bit_or, bit_xor, xor_shr, xor_mod}
 use Rattle.std.proofs.lemmas.Nat.{or_comm, or_shifted, shr-shr, div-add-mod', mod-pow-add}
-use Rattle.bytes.specs.Bytes.{xors}
-use Rattle.bytes.specs.Numbers.{octets}
-use Rattle.bytes.proofs.Digits.{octets_four}
+use Rattle.byte_lists.specs.Bytes.{xors}
+use Rattle.byte_lists.specs.Numbers.{octets}
+use Rattle.byte_lists.proofs.Digits.{octets_four}
 use Rattle.aes.specs.Words.{turned}
 
 -- One byte of an exclusive or, k bits up.

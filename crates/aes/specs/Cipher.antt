@@ -1,6 +1,6 @@
 -- The cipher and its inverse under an expanded key, and under a key (FIPS 197, 5.1 and 5.3).
 use Rattle.std.specs.Prelude.{ℕ, zero, suc, ◌*◌, List, take, drop}
-use Rattle.bytes.specs.Bytes.{xors}
+use Rattle.byte_lists.specs.Bytes.{xors}
 use Rattle.aes.specs.Steps.{sub_bytes, shift_rows, mix_columns, inv_sub_bytes, inv_shift_rows, inv_mix_columns}
 use Rattle.aes.specs.KeyExpansion.{key_expansion}
 

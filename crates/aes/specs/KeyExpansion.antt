@@ -1,6 +1,6 @@
 -- KeyExpansion for a key of 16 bytes (FIPS 197, 5.2). The expanded key is a list of 44 words of four bytes.
 use Rattle.std.specs.Prelude.{ℕ, zero, suc, ◌+◌, ◌-◌, ◌*◌, ◌/◌, ◌%◌, cond, List, [], ◌∷◌, ◌++◌, take, drop, ◌==◌}
-use Rattle.bytes.specs.Bytes.{xors}
+use Rattle.byte_lists.specs.Bytes.{xors}
 use Rattle.sbox.specs.Field.{xtime}
 use Rattle.aes.specs.Steps.{sub_bytes}
 

@@ -3,7 +3,7 @@ use Rattle.std.specs.Prelude.{◌≡◌, ℕ, zero, suc, ◌/◌, ◌%◌, ◌<�
 use Rattle.std.proofs.Common.{ap, sym, ◌∙◌, arith, lit<, leb→le}
 use Rattle.std.specs.Int.Bits.{xor_self, xor_zero_r, xor_zero_l}
 use Rattle.std.proofs.lemmas.Nat.{xor_shr, xor_mod, xor_lt}
-use Rattle.bytes.proofs.Tables.{all_below_at}
+use Rattle.byte_lists.proofs.Tables.{all_below_at}
 use Rattle.sbox.specs.Field.{mul, times, xtime}
 use Rattle.aes.specs.Steps.{sum}
 use Rattle.aes.specs.Sums.{swap}

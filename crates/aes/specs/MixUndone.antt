@@ -3,8 +3,8 @@ use Rattle.std.specs.Prelude.{◌≡◌, ℕ, zero, suc, ◌<◌, T, List, [], �
 use Rattle.std.proofs.Math.Path.{refl, sym}
 use Rattle.std.proofs.Common.{ap, ◌∙◌, eqb→eq, lit<}
 use Rattle.std.specs.Int.Bits.{xor_zero_r, xor_lt}
-use Rattle.bytes.specs.Bytes.{Bytes}
-use Rattle.bytes.proofs.Tables.{all_below, all_below_at}
+use Rattle.byte_lists.specs.Bytes.{Bytes}
+use Rattle.byte_lists.proofs.Tables.{all_below, all_below_at}
 use Rattle.sbox.specs.Field.{mul}
 use Rattle.aes.specs.Steps.{sum, row, columns, mix_columns, inv_mix_columns}
 use Rattle.aes.specs.Sums.{across, turn, sums}

@@ -3,10 +3,10 @@ use Rattle.std.specs.Prelude.{◌≡◌, ℕ, zero, suc, ◌+◌, ◌*◌, ◌�
 use Rattle.std.proofs.Common.{ap, sym, ◌∙◌, arith, length-drop, take-append-drop}
 use borrow.Rule.Slice.PartMut.{put_mid, post_of}
 use Rattle.std.proofs.lemmas.List.{drop_more, drop-drop, take_all, append-nil, append_assoc, nil_from_length}
-use Rattle.bytes.specs.Bytes.{Bytes}
-use Rattle.bytes.specs.Numbers.{octets}
-use Rattle.bytes.proofs.Digits.{bytes_octets}
-use Rattle.bytes.proofs.Facts.{bytes_none, bytes_append}
+use Rattle.byte_lists.specs.Bytes.{Bytes}
+use Rattle.byte_lists.specs.Numbers.{octets}
+use Rattle.byte_lists.proofs.Digits.{bytes_octets}
+use Rattle.byte_lists.proofs.Facts.{bytes_none, bytes_append}
 use Rattle.aes.specs.Words.{bytes_of}
 
 -- The four entries from i.

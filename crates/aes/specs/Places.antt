@@ -4,8 +4,8 @@ use Rattle.std.proofs.Common.{ap, ◌∙◌, leb→le, lit<}
 use Rattle.std.specs.List.{range_with_len}
 use Rattle.std.proofs.lemmas.List.{get_or-map}
 use Rattle.std.proofs.lemmas.Simd.{pick_l_whole}
-use Rattle.bytes.specs.Bytes.{Bytes}
-use Rattle.bytes.proofs.Tables.{both_left, both_right, small}
+use Rattle.byte_lists.specs.Bytes.{Bytes}
+use Rattle.byte_lists.proofs.Tables.{both_left, both_right, small}
 use Rattle.aes.specs.Steps.{picked}
 
 picked_picked : (qs ps xs : List ℕ) → T (small (length ps) qs) → picked qs (picked ps xs) ≡ picked (picked qs ps) xs

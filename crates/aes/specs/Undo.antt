@@ -3,8 +3,8 @@ use Rattle.std.specs.Prelude.{◌≡◌, ℕ, zero, suc, ◌*◌, ◌<◌, List,
 use Rattle.std.proofs.Math.Path.{refl, ap}
 use Rattle.std.proofs.Common.{◌∙◌}
 use Rattle.std.proofs.lemmas.List.{length-map}
-use Rattle.bytes.specs.Bytes.{Bytes, Block, xors}
-use Rattle.bytes.proofs.Facts.{xors_undone, length_xors, bytes_xors, bytes_drop, bytes_take}
+use Rattle.byte_lists.specs.Bytes.{Bytes, Block, xors}
+use Rattle.byte_lists.proofs.Facts.{xors_undone, length_xors, bytes_xors, bytes_drop, bytes_take}
 use Rattle.sbox.specs.Tables.{sub, inv_sub}
 use Rattle.sbox.proofs.Rule.{sub_inv_sub, inv_sub_sub, sub_byte, inv_sub_byte}
 use Rattle.aes.specs.Steps.{sub_bytes, inv_sub_bytes, shifted, unshifted, shift_rows, inv_shift_rows, mix_columns, inv_mix_columns}

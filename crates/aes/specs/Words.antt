@@ -1,6 +1,6 @@
 -- Words of 32 bits as four bytes, the highest first.
 use Rattle.std.specs.Prelude.{ℕ, ◌-◌, List, [], ◌∷◌, ◌++◌, take, drop, slice_index}
-use Rattle.bytes.specs.Numbers.{octets}
+use Rattle.byte_lists.specs.Numbers.{octets}
 
 -- The bytes of the words.
 abbrev pub bytes_of : List ℕ → List ℕ

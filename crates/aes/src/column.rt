@@ -1,7 +1,7 @@
 // One column of the state: its rows, and the steps of a round on it.
 ghost use Rattle.std.specs.Prelude.{◌≡◌, ◌<◌, ◌≤◌, slice_index};
-ghost use Rattle.bytes.specs.Bytes.{xors};
-ghost use Rattle.bytes.specs.Numbers.{octets};
+ghost use Rattle.byte_lists.specs.Bytes.{xors};
+ghost use Rattle.byte_lists.specs.Numbers.{octets};
 ghost use Rattle.aes.specs.Steps.{sub_bytes, mix_columns, inv_sub_bytes, inv_mix_columns};
 ghost use Rattle.aes.specs.Words.{turned, gathered};
 

@@ -1,7 +1,7 @@
 // KeyExpansion: 44 words from the four of the key.
 ghost use Rattle.std.specs.Prelude.{◌≡◌, ◌<◌, ◌≤◌, length};
-ghost use Rattle.bytes.specs.Bytes.{xors};
-ghost use Rattle.bytes.specs.Numbers.{octets};
+ghost use Rattle.byte_lists.specs.Bytes.{xors};
+ghost use Rattle.byte_lists.specs.Numbers.{octets};
 ghost use Rattle.aes.specs.Steps.{sub_bytes};
 ghost use Rattle.aes.specs.KeyExpansion.{rot_word, rcon, joining, key_expansion};
 ghost use Rattle.aes.specs.Words.{bytes_of};

@@ -1,4 +1,6 @@
 // AES-128 (FIPS 197), by tables of words.
+#![tactic(auto)]
+
 mod aes128;
 mod blocks;
 mod column;

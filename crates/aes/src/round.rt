@@ -1,6 +1,6 @@
 // The rounds of the cipher and of its inverse, a column at a time.
 ghost use Rattle.std.specs.Prelude.{◌≡◌};
-ghost use Rattle.bytes.specs.Bytes.{xors};
+ghost use Rattle.byte_lists.specs.Bytes.{xors};
 ghost use Rattle.aes.specs.Cipher.{round, final_round, inv_round, inv_final_round};
 ghost use Rattle.aes.specs.Steps.{sub_bytes, shift_rows, mix_columns, inv_sub_bytes, inv_shift_rows, inv_mix_columns};
 ghost use Rattle.aes.specs.Columns.{state_bytes};

@@ -1,6 +1,6 @@
 // Between the bytes of a block and the state.
 ghost use Rattle.std.specs.Prelude.{◌≡◌, ◌+◌, ◌≤◌, length, take, drop};
-ghost use Rattle.bytes.specs.Numbers.{octets};
+ghost use Rattle.byte_lists.specs.Numbers.{octets};
 ghost use Rattle.aes.specs.Columns.{state_bytes};
 
 use crate::state::State;

@@ -4,8 +4,8 @@ use Rattle.std.proofs.lemmas.List.{take_all, take_at, take-append-drop, drop_mor
 use Rattle.std.proofs.lemmas.Bool.{eqb-true, eqb-false, ltb-false, eq-eqb, ne_eqb, le-ltb, cond-true, cond-false}
 use Rattle.std.proofs.lemmas.Bool.Decides.{nat_tests}
 use Rattle.std.specs.Option.{option_map}
-use Rattle.bytes.specs.Bytes.{Bytes}
-use Rattle.bytes.proofs.Facts.{bytes_drop}
+use Rattle.byte_lists.specs.Bytes.{Bytes}
+use Rattle.byte_lists.proofs.Facts.{bytes_drop}
 use Rattle.apdu.specs.Command.{Shape, bare, le, alone, both, Command, expected, shape_in, headed, command_in}
 use Rattle.apdu.specs.Writing.{le_byte, shape_bytes, command_bytes, Proper, Reads}
 

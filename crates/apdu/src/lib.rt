@@ -1,4 +1,6 @@
 // Commands as they come over the line, and the status words that end every reply.
+#![tactic(auto)]
+
 mod command;
 mod read;
 mod reply;

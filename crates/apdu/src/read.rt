@@ -1,7 +1,7 @@
 // Reading the bytes of a command.
 ghost use Rattle.std.specs.Prelude.{◌≡◌, length, OnSome};
 ghost use Rattle.std.specs.Option.{option_map};
-ghost use Rattle.bytes.specs.Bytes.{Bytes};
+ghost use Rattle.byte_lists.specs.Bytes.{Bytes};
 ghost use Rattle.apdu.specs.Command.{expected, shape_in, command_in, data_of};
 ghost use Rattle.apdu.specs.Writing.{Reads};
 ghost use Rattle.apdu.specs.View.{shape_of, command_of};

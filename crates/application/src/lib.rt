@@ -1,4 +1,6 @@
 // What an application on the card is.
+#![tactic(auto)]
+
 ghost use Rattle.std.specs.Prelude.{◌≡◌, ◌≤◌, length};
 ghost use Rattle.apdu.specs.Reply.{fronted};
 ghost use Rattle.application.specs.Acts.{Acts, Bounded};

@@ -1,4 +1,6 @@
 // Associating: establishing masters and connections, starting sessions and terminating, on the card's tables.
+#![tactic(auto)]
+
 mod answer;
 mod carry;
 mod check;

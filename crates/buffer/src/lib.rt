@@ -1,4 +1,6 @@
 // A fixed store of bytes of which the first are in use.
+#![tactic(auto)]
+
 ghost use Rattle.std.specs.Prelude.{◌≡◌, ◌+◌, ◌≤◌, [], ◌++◌, length, take, if◌then◌else◌, nat_le};
 ghost use Rattle.buffer.specs.Held.{held};
 

@@ -1,4 +1,6 @@
 // The card: load, power on, command, power off.
+#![tactic(auto)]
+
 mod answer;
 mod load;
 mod off;

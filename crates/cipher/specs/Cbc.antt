@@ -1,6 +1,6 @@
 -- Cipher block chaining from a block of zeros (NIST SP 800-38A, 6.2).
 use Rattle.std.specs.Prelude.{ℕ, zero, suc, ◌/◌, List, ◌++◌, length, take, drop, replicate}
-use Rattle.bytes.specs.Bytes.{xors}
+use Rattle.byte_lists.specs.Bytes.{xors}
 
 -- m blocks of n bytes from the front of xs: the block b behind the block prev becomes out prev b, and next prev b stands
 -- before the following one. What is left behind the m blocks stays.

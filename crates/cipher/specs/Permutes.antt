@@ -1,6 +1,6 @@
 -- What makes two functions on blocks a cipher under one key.
 use Rattle.std.specs.Prelude.{◌≡◌, ℕ, List}
-use Rattle.bytes.specs.Bytes.{Block}
+use Rattle.byte_lists.specs.Bytes.{Block}
 
 -- On blocks of n bytes, E and D give blocks of n bytes, and each undoes the other.
 pub record Permutes (n : ℕ) (E D : List ℕ → List ℕ) : Type 0 where

@@ -1,7 +1,7 @@
 -- Ciphers made of ciphers.
 use Rattle.std.specs.Prelude.{◌≡◌, ℕ, List}
 use Rattle.std.proofs.Common.{ap, ◌∙◌, subst, sym}
-use Rattle.bytes.specs.Bytes.{Block}
+use Rattle.byte_lists.specs.Bytes.{Block}
 use Rattle.cipher.specs.Permutes.{Permutes}
 
 -- Decrypting is a cipher too.

@@ -4,7 +4,7 @@ ghost use Rattle.cipher.specs.Cbc.{cbc, uncbc};
 ghost use Rattle.cipher.specs.Links.{becomes, carried, chain_of};
 
 use crate::block::BlockCipher;
-use bytes::join;
+use byte_lists::join;
 
 // Which way a chain runs.
 #[derive(Clone, Copy)]

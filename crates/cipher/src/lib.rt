@@ -1,4 +1,6 @@
 // Block ciphers: what one is, three that make another, and chaining in place.
+#![tactic(auto)]
+
 mod block;
 mod cbc;
 mod triple;

@@ -1,6 +1,6 @@
 // Three of one kind make another cipher: encrypt, decrypt, encrypt.
 ghost use Rattle.std.specs.Prelude.{◌≡◌, ℕ, List};
-ghost use Rattle.bytes.specs.Bytes.{Block};
+ghost use Rattle.byte_lists.specs.Bytes.{Block};
 ghost use Rattle.cipher.specs.Triple.{in_turn};
 ghost use Rattle.cipher.specs.Permuting.{after, turned};
 ghost use Rattle.std.proofs.Common.{rules};

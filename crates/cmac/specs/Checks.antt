@@ -3,8 +3,8 @@ use Rattle.std.specs.Prelude.{◌≡◌, ℕ, ◌-◌, ◌*◌, ◌<◌, ◌≤�
 use Rattle.std.proofs.Common.{◌∙◌, arith, lit<, length-append, length-drop}
 use Rattle.std.proofs.lemmas.List.{length-replicate}
 use Rattle.std.proofs.lemmas.Bool.{eqb-true, eqb-false, cond_both}
-use Rattle.bytes.specs.Bytes.{Bytes, Block, xors}
-use Rattle.bytes.proofs.Facts.{bytes_cons, bytes_append, bytes_drop, bytes_zeros, length_xors, bytes_xors}
+use Rattle.byte_lists.specs.Bytes.{Bytes, Block, xors}
+use Rattle.byte_lists.proofs.Facts.{bytes_cons, bytes_append, bytes_drop, bytes_zeros, length_xors, bytes_xors}
 use Rattle.cmac.specs.Links.{block_absorbed}
 use Rattle.cmac.specs.Shift.{block_doubled}
 use Rattle.cmac.specs.Cmac.{zeros, doubled, subkey, padded, filled, masked, absorbed, before_last, cmac}

@@ -1,6 +1,6 @@
 -- CMAC over a cipher of 16-byte blocks (NIST SP 800-38B); the check is the whole last block of the chain.
 use Rattle.std.specs.Prelude.{ℕ, zero, suc, ◌+◌, ◌-◌, ◌*◌, ◌/◌, ◌%◌, Bool, cond, List, [], ◌∷◌, ◌++◌, length, take, drop, replicate, ◌==◌, nat_lt, slice_index}
-use Rattle.bytes.specs.Bytes.{xors}
+use Rattle.byte_lists.specs.Bytes.{xors}
 
 -- A block of zeros.
 abbrev pub zeros : List ℕ

@@ -2,7 +2,7 @@
 use Rattle.std.specs.Prelude.{◌≡◌, ℕ, zero, suc, ◌<◌, ◌≤◌, List, [], ◌∷◌, ◌++◌, length, take, drop, replicate, bit_xor, slice_index, slice_set, refl}
 use Rattle.std.proofs.Common.{sym, ap, ◌∙◌, le_of_suc-le-suc, not-suc-le-zero}
 use Rattle.std.specs.Int.Bits.{xor_zero_r}
-use Rattle.bytes.specs.Bytes.{xors}
+use Rattle.byte_lists.specs.Bytes.{xors}
 
 pub xors_zeros : (n : ℕ) (xs : List ℕ) → xors xs (replicate n 0) ≡ xs
 unfolding xors

@@ -2,8 +2,8 @@
 use Rattle.std.specs.Prelude.{◌≡◌, ℕ, zero, suc, ◌+◌, ◌-◌, ◌*◌, ◌<◌, ◌≤◌, List, take, drop}
 use Rattle.std.proofs.Common.{sym, ap, ◌∙◌, arith}
 use Rattle.std.proofs.lemmas.List.{drop-drop}
-use Rattle.bytes.specs.Bytes.{Bytes, Block, xors}
-use Rattle.bytes.proofs.Facts.{bytes_take, bytes_drop, length_xors, bytes_xors}
+use Rattle.byte_lists.specs.Bytes.{Bytes, Block, xors}
+use Rattle.byte_lists.proofs.Facts.{bytes_take, bytes_drop, length_xors, bytes_xors}
 use Rattle.cmac.specs.Cmac.{absorbed}
 
 -- Block i, of k bytes as the code has it, turns the state c into d.

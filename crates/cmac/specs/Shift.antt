@@ -5,9 +5,9 @@ use Rattle.std.specs.Int.Bits.{xor_zero_r}
 use Rattle.std.proofs.lemmas.Nat.{or_shifted}
 use Rattle.std.proofs.lemmas.List.{set-get_or, get_or-append_right, get_or-drop, length-take-le}
 use Rattle.std.proofs.lemmas.Bool.{cases_lt, lt-ltb, le-ltb}
-use Rattle.bytes.specs.Bytes.{Bytes, Block, xors}
-use Rattle.bytes.proofs.Facts.{bytes_cons, bytes_append, bytes_zeros, bytes_none, length_xors, bytes_xors}
-use Rattle.bytes.proofs.Written.{over, over_more}
+use Rattle.byte_lists.specs.Bytes.{Bytes, Block, xors}
+use Rattle.byte_lists.proofs.Facts.{bytes_cons, bytes_append, bytes_zeros, bytes_none, length_xors, bytes_xors}
+use Rattle.byte_lists.proofs.Written.{over, over_more}
 use Rattle.cmac.specs.Joins.{xors_zeros, xors_behind}
 use Rattle.cmac.specs.Cmac.{shifted, reduction, doubled}
 

@@ -3,7 +3,7 @@ ghost use Rattle.std.specs.Prelude.{◌≡◌, ◌*◌, ◌≤◌, length};
 ghost use Rattle.cmac.specs.Cmac.{absorbed};
 
 use crate::blocks::BLOCK;
-use bytes::join;
+use byte_lists::join;
 use cipher::{BlockCipher, Wide};
 
 // Takes that many blocks from the front of the text into the state, one after the other.

@@ -2,13 +2,13 @@
 ghost use Rattle.std.specs.Prelude.{◌≡◌, ℕ, List};
 ghost use Rattle.std.proofs.Common.{subst, rules};
 ghost use Rattle.cmac.specs.Cmac.{before_last, cmac};
-ghost use Rattle.bytes.specs.Bytes.{Block};
+ghost use Rattle.byte_lists.specs.Bytes.{Block};
 ghost use Rattle.cmac.specs.Checks.{block_cmac};
 
 use crate::absorb::absorb;
 use crate::blocks::BLOCK;
 use crate::last::write_masked;
-use bytes::join;
+use byte_lists::join;
 use cipher::{BlockCipher, Wide};
 use integrity::Integrity;
 

@@ -1,11 +1,11 @@
 // The last block, which a subkey is joined into.
 ghost use Rattle.std.specs.Prelude.{◌≡◌, ◌<◌, ◌≤◌, length, ◌==◌, bit_xor, slice_index, slice_set};
-ghost use Rattle.bytes.specs.Bytes.{xors};
+ghost use Rattle.byte_lists.specs.Bytes.{xors};
 ghost use Rattle.cmac.specs.Cmac.{subkey, filled, masked};
 
 use crate::blocks::BLOCK;
 use crate::double::double;
-use bytes::join;
+use byte_lists::join;
 use cipher::{BlockCipher, Wide};
 
 // Whether the last block is whole; else it is cut short, or empty.

@@ -1,4 +1,6 @@
 // CMAC as an integrity mechanism, over any cipher of 16-byte blocks.
+#![tactic(auto)]
+
 mod absorb;
 mod blocks;
 mod check;

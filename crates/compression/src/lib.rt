@@ -1,4 +1,6 @@
 // The compression of SHA-256 (FIPS 180-2): its functions on words, its constants, and one block into eight words.
+#![tactic(auto)]
+
 mod block;
 mod letters;
 mod tables;

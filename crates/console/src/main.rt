@@ -1,5 +1,7 @@
 // Scripts of calls on two cards: one answer line for each call. The scripts are the files that the arguments name, or
 // standard input where there is none.
+#![tactic(auto)]
+
 mod cards;
 mod shown;
 

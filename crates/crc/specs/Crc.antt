@@ -1,6 +1,6 @@
 -- CRC-32: the remainder by the polynomial 04C11DB7, bits reflected, start and final inversion FFFFFFFF.
 use Rattle.std.specs.Prelude.{ℕ, zero, suc, ◌+◌, ◌*◌, ◌/◌, ◌%◌, ◌^◌, cond, List, [], ◌∷◌, ◌==◌, bit_xor}
-use Rattle.bytes.specs.Numbers.{octets}
+use Rattle.byte_lists.specs.Numbers.{octets}
 
 -- The lowest k bits of x in the opposite order.
 abbrev pub reflected : ℕ → ℕ → ℕ

@@ -1,7 +1,7 @@
 // CRC-32, and its check of a message.
 ghost use Rattle.std.specs.Prelude.{◌≡◌, ◌/◌, ◌%◌, [], ◌∷◌};
 ghost use Rattle.crc.specs.Crc.{bits, remainder, inverted, start, crc};
-ghost use Rattle.bytes.proofs.Digits.{length_octets, bytes_octets};
+ghost use Rattle.byte_lists.proofs.Digits.{length_octets, bytes_octets};
 ghost use Rattle.std.proofs.Common.{rules};
 
 use crate::table::byte_remainder;

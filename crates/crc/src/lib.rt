@@ -1,4 +1,6 @@
 // CRC-32 as an integrity mechanism.
+#![tactic(auto)]
+
 mod check;
 mod table;
 

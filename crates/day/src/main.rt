@@ -1,4 +1,5 @@
 // One fare's day: the key it needs, its bytes, the channel it goes through, and the applications that keep it.
+#![tactic(auto)]
 
 mod applications;
 mod channel;

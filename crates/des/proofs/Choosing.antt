@@ -2,8 +2,8 @@
 use Rattle.std.proofs.Common.{◌≡◌, ℕ, zero, suc, ◌+◌, ◌-◌, ◌*◌, ◌/◌, ◌%◌, ◌^◌, ◌<◌, ◌≤◌, T, leb, List, [], ◌∷◌, ◌++◌, length, get_or, take, sym, ap, ◌∙◌, lt_of_lt_of_le, le_of_suc-le-suc, not-suc-le-zero, arith, leb→le, pow_mono}
 use Rattle.std.proofs.lemmas.List.{take_more, map-append}
 use Rattle.std.proofs.lemmas.Nat.{pow-add}
-use Rattle.bytes.specs.Bytes.{both}
-use Rattle.bytes.proofs.Tables.{both_left, both_right}
+use Rattle.byte_lists.specs.Bytes.{both}
+use Rattle.byte_lists.proofs.Tables.{both_left, both_right}
 use Rattle.des_tables.specs.Bits.{bits, chosen}
 use Rattle.des_tables.proofs.Bits.{bits_push, get_d_bits}
 use Rattle.des.specs.Places.{places_in}

@@ -3,7 +3,7 @@ use Rattle.std.proofs.Common.{◌≡◌, ℕ, zero, suc, ◌+◌, ◌-◌, ◌*�
 use lib.Bits.{bit_xor}
 use lib.ListN.{length-replicate, replicate-append-replicate}
 use Rattle.std.proofs.lemmas.List.{append_assoc, drop-drop}
-use Rattle.bytes.specs.Bytes.{xors}
+use Rattle.byte_lists.specs.Bytes.{xors}
 use Rattle.des_tables.specs.Bits.{bits, chosen}
 use Rattle.des_tables.specs.Tables.{expansion, straight}
 use Rattle.des_tables.specs.Boxes.{selected, boxes, placed}

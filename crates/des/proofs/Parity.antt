@@ -2,8 +2,8 @@
 use Rattle.std.proofs.Common.{◌≡◌, ℕ, suc, ◌+◌, ◌*◌, ◌/◌, List, [], ◌∷◌, ◌++◌, map, length, take, drop, sym, refl, ap, ◌∙◌, arith}
 use Rattle.std.specs.Int.Digits.{number_from_digits_after}
 use Rattle.std.proofs.lemmas.List.{append_assoc, append-nil}
-use Rattle.bytes.specs.Bytes.{Bytes, Block}
-use Rattle.bytes.specs.Numbers.{number}
+use Rattle.byte_lists.specs.Bytes.{Bytes, Block}
+use Rattle.byte_lists.specs.Numbers.{number}
 use Rattle.des_tables.specs.Bits.{bits, chosen}
 use Rattle.des_tables.specs.Tables.{pc1, shifts}
 use Rattle.des_tables.proofs.Bits.{bits_joined}

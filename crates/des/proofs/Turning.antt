@@ -3,7 +3,7 @@ use Rattle.std.proofs.Common.{◌≡◌, ℕ, ◌+◌, ◌-◌, ◌*◌, ◌/◌
 use lib.Bits.{bit_xor}
 use lib.ListN.{length-map, length-reverse}
 use Rattle.std.proofs.lemmas.List.{drop_more, drop_all, get_or-map, get_or-reverse}
-use Rattle.bytes.specs.Bytes.{xors}
+use Rattle.byte_lists.specs.Bytes.{xors}
 use Rattle.des_tables.specs.Bits.{bits}
 use Rattle.des_tables.proofs.Bits.{bits_xor, bits_mod, take_bits, drop_bits, bits_joined}
 use Rattle.des.specs.Feistel.{Halves, halves, crossed, turns}

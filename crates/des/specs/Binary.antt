@@ -4,7 +4,7 @@ use Rattle.std.proofs.Common.{ap, sym, ◌∙◌, add-zero, zero-add, arith, lit
 use Rattle.std.proofs.lemmas.Nat.{xor_lt}
 use Rattle.std.specs.Int.Digits.{number_from_digits_after}
 use Rattle.std.proofs.lemmas.List.{append_assoc, append-nil, get_or-drop}
-use Rattle.bytes.specs.Bytes.{xors}
+use Rattle.byte_lists.specs.Bytes.{xors}
 use Rattle.des_tables.specs.Bits.{bits, value, chosen}
 use Rattle.des_tables.specs.Tables.{ip, fp, straight, expansion}
 use Rattle.des_tables.specs.Boxes.{selected, boxes}

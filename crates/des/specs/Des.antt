@@ -1,7 +1,7 @@
 -- DES as FIPS 46-3 has it, on lists of bits, and then on bytes.
 use Rattle.std.specs.Prelude.{◌≡◌, ℕ, ◌/◌, List, map, reverse}
-use Rattle.bytes.specs.Bytes.{xors}
-use Rattle.bytes.specs.Numbers.{octets, number}
+use Rattle.byte_lists.specs.Bytes.{xors}
+use Rattle.byte_lists.specs.Numbers.{octets, number}
 use Rattle.des_tables.specs.Bits.{bits, value, chosen}
 use Rattle.des_tables.specs.Tables.{ip, fp, expansion, straight}
 use Rattle.des_tables.specs.Boxes.{boxes}

@@ -1,6 +1,6 @@
 -- A block in two halves, and the turns that a list of keys gives it.
 use Rattle.std.specs.Prelude.{ℕ, List, [], ◌∷◌, ◌++◌, take, drop}
-use Rattle.bytes.specs.Bytes.{xors}
+use Rattle.byte_lists.specs.Bytes.{xors}
 
 pub record Halves : Type 0 where
   pub left : List ℕ

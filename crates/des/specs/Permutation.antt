@@ -2,9 +2,9 @@
 use Rattle.std.specs.Prelude.{◌≡◌, ℕ, ◌^◌, ◌<◌, List, reverse, length}
 use Rattle.std.proofs.Common.{ap, sym, ◌∙◌, arith}
 use Rattle.std.proofs.lemmas.List.{reverse-reverse}
-use Rattle.bytes.specs.Bytes.{Block}
-use Rattle.bytes.specs.Numbers.{octets, number}
-use Rattle.bytes.proofs.Digits.{length_octets, bytes_octets, number_below, octets_number, number_octets}
+use Rattle.byte_lists.specs.Bytes.{Block}
+use Rattle.byte_lists.specs.Numbers.{octets, number}
+use Rattle.byte_lists.proofs.Digits.{length_octets, bytes_octets, number_below, octets_number, number_octets}
 use Rattle.cipher.specs.Permutes.{Permutes}
 use Rattle.des_tables.specs.Bits.{bits, value}
 use Rattle.des_tables.proofs.Bits.{length_bits, value_bits, bits_mod}

@@ -1,6 +1,6 @@
 -- Tables of places.
 use Rattle.std.specs.Prelude.{ℕ, Bool, true, List, [], ◌∷◌, nat_le}
-use Rattle.bytes.specs.Bytes.{both}
+use Rattle.byte_lists.specs.Bytes.{both}
 
 -- Whether each place of the table is one of w, counted from 1.
 abbrev pub places_in : ℕ → List ℕ → Bool

@@ -3,9 +3,9 @@ use Rattle.std.specs.Prelude.{◌≡◌, ℕ, suc, ◌-◌, ◌<◌, Bool, true,
 use Rattle.std.proofs.Math.Path.{refl, ap}
 use Rattle.std.proofs.Common.{◌∙◌, arith, leb→le, length-append, length-take, length-drop, take-append-drop}
 use Rattle.std.proofs.lemmas.List.{get_or-map, take_at, drop_at, reverse-append}
-use Rattle.bytes.specs.Bytes.{both}
-use Rattle.bytes.proofs.Facts.{length_xors, xors_undone}
-use Rattle.bytes.proofs.Tables.{both_left, both_right}
+use Rattle.byte_lists.specs.Bytes.{both}
+use Rattle.byte_lists.proofs.Facts.{length_xors, xors_undone}
+use Rattle.byte_lists.proofs.Tables.{both_left, both_right}
 use Rattle.des_tables.specs.Bits.{chosen}
 use Rattle.des_tables.specs.Tables.{ip, fp}
 use Rattle.des.specs.Feistel.{Halves, halves, crossed, turn, turns}

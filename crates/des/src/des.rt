@@ -1,6 +1,6 @@
 // DES under one key, as a block cipher.
 ghost use Rattle.std.specs.Prelude.{◌≡◌, ℕ, List, map};
-ghost use Rattle.bytes.specs.Bytes.{Block as ByteBlock};
+ghost use Rattle.byte_lists.specs.Bytes.{Block as ByteBlock};
 ghost use Rattle.des.specs.Des.{encrypts, decrypts, des_encrypt, des_decrypt, SameButParity};
 ghost use Rattle.des_tables.specs.Bits.{bits};
 ghost use Rattle.des.specs.Permutation.{ciphered_permutes};

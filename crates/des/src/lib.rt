@@ -1,4 +1,6 @@
 // DES (FIPS 46-3): a block cipher on eight bytes under a key of eight.
+#![tactic(auto)]
+
 mod block;
 mod choose;
 mod des;

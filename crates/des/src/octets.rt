@@ -1,6 +1,6 @@
 // Blocks and keys of eight bytes as words, the highest byte first.
 ghost use Rattle.std.specs.Prelude.{◌≡◌, length};
-ghost use Rattle.bytes.specs.Numbers.{octets, number};
+ghost use Rattle.byte_lists.specs.Numbers.{octets, number};
 
 // The word that eight bytes make.
 pub fn read(block: &[u8]) -> u64

@@ -4,7 +4,7 @@ use lib.Bits.{bit_xor, xor_shr, xor_mod}
 use Rattle.std.proofs.lemmas.List.{append_assoc, append-nil, get_or_append_left, get_or_push, take_at, drop_at}
 use Rattle.std.proofs.lemmas.Nat.{shr-shr, pow-add, shr_high}
 use Rattle.std.proofs.lemmas.Int.Digits.{number_push}
-use Rattle.bytes.specs.Bytes.{xors}
+use Rattle.byte_lists.specs.Bytes.{xors}
 use Rattle.des_tables.specs.Bits.{bits, value}
 use Rattle.des_tables.proofs.Lists.{xors_push}
 

@@ -2,8 +2,8 @@
 use Rattle.std.proofs.Common.{◌≡◌, ℕ, zero, suc, ◌+◌, ◌-◌, ◌*◌, ◌^◌, ◌<◌, Bool, T, ◌⊎◌, List, sym, ap, ◌∙◌, inl, inr, ⊎_elim, eq-zero-or-pos, add-one, arith}
 use lib.Bits.{bit_xor, xor_shifted}
 use Rattle.std.proofs.lemmas.Nat.{pow-add}
-use Rattle.bytes.specs.Bytes.{xors}
-use Rattle.bytes.proofs.Tables.{all_below, all_below_at}
+use Rattle.byte_lists.specs.Bytes.{xors}
+use Rattle.byte_lists.proofs.Tables.{all_below, all_below_at}
 use Rattle.des_tables.specs.Bits.{bits, chosen}
 use Rattle.des_tables.proofs.Lists.{same, same_is, chosen_xors}
 use Rattle.des_tables.proofs.Bits.{bits_xor, length_bits}

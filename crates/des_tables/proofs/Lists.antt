@@ -1,8 +1,8 @@
 -- Exclusive or of lists, and choices of bits, as lists.
 use Rattle.std.proofs.Common.{◌≡◌, ℕ, zero, suc, ◌+◌, ◌-◌, Bool, true, false, T, eqb, List, [], ◌∷◌, ◌++◌, length, get_or, take, drop, replicate, sym, refl, ap, ◌∙◌, arith, eqb→eq}
 use lib.Bits.{bit_xor, xor_assoc, xor_zero_r}
-use Rattle.bytes.specs.Bytes.{xors}
-use Rattle.bytes.proofs.Tables.{both, both_left, both_right}
+use Rattle.byte_lists.specs.Bytes.{xors}
+use Rattle.byte_lists.proofs.Tables.{both, both_left, both_right}
 use Rattle.des_tables.specs.Bits.{chosen}
 
 pub xors_none : (xs : List ℕ) → xors xs [] ≡ xs

@@ -1,6 +1,6 @@
 -- Each entry of the merged table is what a box gives for six bits, in its place among 32, after P: one computed test.
 use Rattle.std.proofs.Common.{◌≡◌, ℕ, ◌+◌, ◌*◌, ◌/◌, ◌%◌, ◌<◌, Bool, T, List, [], ◌∷◌, get_or, ap, ◌∙◌, arith}
-use Rattle.bytes.proofs.Tables.{every, every_at}
+use Rattle.byte_lists.proofs.Tables.{every, every_at}
 use Rattle.des_tables.specs.Bits.{bits, chosen}
 use Rattle.des_tables.specs.Tables.{sboxes, straight}
 use Rattle.des_tables.specs.Boxes.{selected, placed}

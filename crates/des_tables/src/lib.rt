@@ -1,4 +1,6 @@
 // The eight boxes of DES with the permutation P behind them, as one table of words.
+#![tactic(auto)]
+
 ghost use Rattle.std.specs.Prelude.{◌≡◌, ◌<◌};
 ghost use Rattle.des_tables.specs.Bits.{bits, chosen};
 ghost use Rattle.des_tables.specs.Boxes.{placed};

@@ -1,7 +1,7 @@
 -- A sealed text opens to itself, and a string that opens is its text's only sealing: for every cipher and every check.
 use Rattle.std.proofs.Common.{◌≡◌, ℕ, ◌+◌, ◌%◌, ◌≤◌, Bool, true, false, cond, ◌&&◌, T, eqb, ◌⊎◌, List, length, Some, None, Option, sym, refl, ap, ◌∙◌, subst, arith, lit<, eq-eqb, eqb-true}
-use Rattle.bytes.specs.Bytes.{Bytes, Block, small}
-use Rattle.bytes.proofs.Tables.{small_at, small_from}
+use Rattle.byte_lists.specs.Bytes.{Bytes, Block, small}
+use Rattle.byte_lists.proofs.Tables.{small_at, small_from}
 use Rattle.cipher.specs.Permutes.{Permutes}
 use Rattle.cipher.specs.Cbc.{cbc, uncbc}
 use Rattle.cipher.proofs.Undo.{Undone, cbc_undone, uncbc_undone}

@@ -1,6 +1,6 @@
 -- A sealed string under a cipher and a mechanism: the text's frame, enciphered block by block.
 use Rattle.std.specs.Prelude.{ℕ, ◌%◌, cond, ◌&&◌, List, length, Some, None, Option, ◌==◌}
-use Rattle.bytes.specs.Bytes.{small}
+use Rattle.byte_lists.specs.Bytes.{small}
 use Rattle.cipher.specs.Cbc.{cbc, uncbc}
 use Rattle.sealing.specs.Sealing.{Text}
 use Rattle.frame.specs.Frame.{frame, text_of}

@@ -1,4 +1,6 @@
 // Sealing and opening under any cipher and any mechanism.
+#![tactic(auto)]
+
 ghost use Rattle.std.specs.Prelude.{◌≡◌, ◌≤◌, length, take};
 ghost use Rattle.sealing.specs.Lent.{Seals, OpensTo};
 ghost use Rattle.sealing.specs.Sealing.{text};

@@ -1,4 +1,6 @@
 // Ciphers, checks and digests as calls for C. A call whose lengths do not fit answers 1 and writes nothing.
+#![tactic(auto)]
+
 mod aes_cbc;
 mod chain;
 mod checks;

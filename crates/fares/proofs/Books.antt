@@ -2,7 +2,7 @@
 use Rattle.std.proofs.Common.{◌≡◌, ℕ, ◌+◌, ◌<◌, ◌≤◌, Bool, true, false, cond, ◌&&◌, eqb, ltb, List, [], ◌∷◌, ◌++◌, length, Some, None, Option, sym, refl, ap, ◌∙◌, subst, ⊎_elim, arith}
 use Rattle.std.proofs.lemmas.List.{append-nil, append_assoc, length_push}
 use Rattle.std.proofs.lemmas.Bool.{cases_lt, lt-ltb, le-ltb}
-use Rattle.bytes.specs.Numbers.{octets}
+use Rattle.byte_lists.specs.Numbers.{octets}
 use Rattle.apdu.specs.Command.{Command, command_in, data_of}
 use Rattle.apdu.specs.Reply.{reply as replying, says}
 use Rattle.apdu.specs.declared.status.Status.TheVariants.{Done, WrongData, NoRoom, UnknownInstruction}

@@ -1,6 +1,6 @@
 -- What the fare counter means, over the list of the fares that it holds.
 use Rattle.std.specs.Prelude.{ℕ, cond, ◌&&◌, List, [], ◌∷◌, ◌++◌, length, take, drop, Some, None, sum_by, Option, ◌==◌, nat_lt, slice_index}
-use Rattle.bytes.specs.Numbers.{octets, number}
+use Rattle.byte_lists.specs.Numbers.{octets, number}
 use Rattle.apdu.specs.Command.{Command, data_of}
 use Rattle.apdu.specs.declared.status.Status.{Status}
 use Rattle.apdu.specs.declared.status.Status.TheVariants.{Done, WrongData, NoRoom, UnknownInstruction}

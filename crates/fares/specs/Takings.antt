@@ -1,6 +1,6 @@
 -- What a clearing house can rely on, which sees the line and not the counter.
 use Rattle.std.specs.Prelude.{◌≡◌, ℕ, ◌<◌, ◌≤◌, cond, ◌&&◌, List, [], ◌∷◌, ◌++◌, length, Some, None, Option, ◌==◌}
-use Rattle.bytes.specs.Numbers.{octets}
+use Rattle.byte_lists.specs.Numbers.{octets}
 use Rattle.apdu.specs.Command.{Command, command_in, data_of}
 use Rattle.apdu.specs.Reply.{reply as replying, says}
 use Rattle.apdu.specs.declared.status.Status.TheVariants.{Done, WrongData, NoRoom}

@@ -1,6 +1,6 @@
 // Appending a fare.
 ghost use Rattle.std.specs.Prelude.{◌≡◌, ◌<◌, ◌≤◌, [], ◌∷◌, ◌++◌, length};
-ghost use Rattle.bytes.specs.Numbers.{number};
+ghost use Rattle.byte_lists.specs.Numbers.{number};
 ghost use Rattle.apdu.specs.Reply.{reply};
 ghost use Rattle.fares.specs.Counter.{fare_in, append as appending, counts as counting};
 ghost use Rattle.fares.specs.Takings.{CountsFares};

@@ -1,4 +1,6 @@
 // The fare counter: an application that holds up to 32 fares and gives their sum.
+#![tactic(auto)]
+
 mod append;
 mod counter;
 mod fare;

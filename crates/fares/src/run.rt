@@ -1,6 +1,6 @@
 // The fare counter as an application.
 ghost use Rattle.std.specs.Prelude.{◌≡◌, ◌≤◌, List, length};
-ghost use Rattle.bytes.specs.Numbers.{octets};
+ghost use Rattle.byte_lists.specs.Numbers.{octets};
 ghost use Rattle.apdu.specs.Reply.{fronted};
 ghost use Rattle.apdu.specs.View.{command_of};
 ghost use Rattle.fares.specs.declared.fare.Fare.{Fare as FareOf};

@@ -3,10 +3,10 @@ use Rattle.std.proofs.Common.{◌≡◌, ℕ, zero, suc, ◌+◌, ◌-◌, ◌%�
 use Rattle.std.proofs.lemmas.List.{length-replicate, length-take-le, append_assoc}
 use Rattle.std.proofs.lemmas.Slice.Eq.{bytes_eq-Decides}
 use Rattle.std.specs.Str.{bytes_eq}
-use Rattle.bytes.specs.Bytes.{Bytes, Block}
-use Rattle.bytes.specs.Numbers.{octets, number}
-use Rattle.bytes.proofs.Digits.{length_octets, octets_number, number_octets, number_below}
-use Rattle.bytes.proofs.Facts.{bytes_drop, bytes_take}
+use Rattle.byte_lists.specs.Bytes.{Bytes, Block}
+use Rattle.byte_lists.specs.Numbers.{octets, number}
+use Rattle.byte_lists.proofs.Digits.{length_octets, octets_number, number_octets, number_below}
+use Rattle.byte_lists.proofs.Facts.{bytes_drop, bytes_take}
 use Rattle.sealing.specs.Suites.{direction_byte, direction_of}
 use Rattle.sealing.specs.Sealing.{Text, text, Good}
 use Rattle.sealing.specs.declared.suite.Direction.{Direction}

@@ -1,9 +1,9 @@
 -- A frame's bytes and its length.
 use Rattle.std.proofs.Common.{◌≡◌, ℕ, ◌+◌, ◌<◌, List, ◌++◌, length, replicate, ap, ◌∙◌, arith, lit<, length-append}
 use Rattle.std.proofs.lemmas.List.{length-replicate}
-use Rattle.bytes.specs.Bytes.{Bytes, Block}
-use Rattle.bytes.proofs.Facts.{bytes_cons, bytes_append, bytes_zeros}
-use Rattle.bytes.proofs.Digits.{bytes_octets}
+use Rattle.byte_lists.specs.Bytes.{Bytes, Block}
+use Rattle.byte_lists.proofs.Facts.{bytes_cons, bytes_append, bytes_zeros}
+use Rattle.byte_lists.proofs.Digits.{bytes_octets}
 use Rattle.sealing.specs.Suites.{direction_byte}
 use Rattle.sealing.specs.Sealing.{Text, Good}
 use Rattle.sealing.specs.declared.suite.Direction.{Direction}

@@ -1,7 +1,7 @@
 -- The frame of a text: direction, number, length and body, the check over these, and the fewest zeros that fill whole blocks.
 use Rattle.std.specs.Prelude.{ℕ, ◌+◌, ◌-◌, ◌%◌, Bool, true, false, cond, ◌&&◌, List, [], ◌∷◌, ◌++◌, length, take, drop, replicate, Some, None, Option, ◌==◌, nat_le, slice_index}
 use Rattle.std.specs.Str.{bytes_eq}
-use Rattle.bytes.specs.Numbers.{octets, number}
+use Rattle.byte_lists.specs.Numbers.{octets, number}
 use Rattle.sealing.specs.Suites.{direction_byte, direction_of}
 use Rattle.sealing.specs.Sealing.{Text, text}
 use Rattle.sealing.specs.declared.suite.Direction.{Direction}

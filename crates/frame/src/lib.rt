@@ -1,4 +1,6 @@
 // The frame of a text: its head, its body, the check over both, and the fill.
+#![tactic(auto)]
+
 mod read;
 mod write;
 

@@ -1,7 +1,7 @@
 // Reading the text that a frame holds.
 ghost use Rattle.std.specs.Prelude.{◌≡◌, ◌+◌, ◌<◌, ◌≤◌, length, take, drop};
 ghost use Rattle.std.specs.Str.{bytes_eq};
-ghost use Rattle.bytes.specs.Numbers.{number};
+ghost use Rattle.byte_lists.specs.Numbers.{number};
 ghost use Rattle.frame.specs.Frame.{blank, framed, missing, stated, text_of, told};
 
 use integrity::Integrity;

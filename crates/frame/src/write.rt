@@ -5,7 +5,7 @@ ghost use Rattle.sealing.specs.Sealing.{text};
 ghost use Rattle.frame.specs.Frame.{frame, front};
 
 use crate::read::in_blocks;
-use bytes::put;
+use byte_lists::put;
 use integrity::Integrity;
 use sealing::Direction;
 

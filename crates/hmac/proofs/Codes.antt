@@ -2,7 +2,7 @@
 use Rattle.std.proofs.Common.{◌≡◌, ℕ, ◌≤◌, List, [], ◌++◌, length, take, drop, sym, ap, ◌∙◌, arith, length-append, length-drop}
 use borrow.Rule.Slice.PartMut.{put_mid, post_of}
 use Rattle.std.proofs.lemmas.List.{take_at, drop_at, drop_all, append-nil}
-use Rattle.bytes.specs.Bytes.{Bytes}
+use Rattle.byte_lists.specs.Bytes.{Bytes}
 use Rattle.sha256.proofs.Digests.{length_digest, bytes_digest}
 use Rattle.hmac.specs.Hmac.{hmac}
 

@@ -1,6 +1,6 @@
 -- HMAC (RFC 2104) with SHA-256: blocks of 64 bytes, results of 32.
 use Rattle.std.specs.Prelude.{ℕ, ◌-◌, cond, List, ◌++◌, length, replicate, nat_lt}
-use Rattle.bytes.specs.Bytes.{xors}
+use Rattle.byte_lists.specs.Bytes.{xors}
 use Rattle.sha256.specs.Digest.{digest}
 
 -- A list of at most 64 bytes, with zeros behind it, as a block.

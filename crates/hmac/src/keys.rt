@@ -1,9 +1,9 @@
 // A key as a block, and joined with the bytes of its two uses.
 ghost use Rattle.std.specs.Prelude.{◌≡◌, ℕ, ◌-◌, ◌≤◌, List, ◌++◌, length, replicate, nat_lt};
-ghost use Rattle.bytes.specs.Bytes.{xors};
+ghost use Rattle.byte_lists.specs.Bytes.{xors};
 ghost use Rattle.hmac.specs.Hmac.{filled, block_key, ipad, opad};
 
-use bytes::join;
+use byte_lists::join;
 use sha256::digest_of;
 
 // A block, before it is known.

@@ -1,4 +1,6 @@
 // HMAC-SHA-256 (RFC 2104) over messages in any number of parts, and the expansion of keys by it.
+#![tactic(auto)]
+
 mod code;
 mod expansion;
 mod keys;

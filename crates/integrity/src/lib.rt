@@ -1,6 +1,8 @@
 // Integrity mechanisms: what one is.
+#![tactic(auto)]
+
 ghost use Rattle.std.specs.Prelude.{◌≡◌, List, ℕ, ◌≤◌, length};
-ghost use Rattle.bytes.specs.Bytes.{Bytes, Block};
+ghost use Rattle.byte_lists.specs.Bytes.{Bytes, Block};
 
 // Turns bytes into a check whose length the mechanism's kind fixes. Its meaning is a function from the message to its check.
 pub trait Integrity {

@@ -1,7 +1,7 @@
 -- The keys that are cut from expanded material are 40 bytes.
 use Rattle.std.proofs.Common.{ℕ, ◌-◌, List, ◌++◌, take, drop, length-drop, length-take}
-use Rattle.bytes.specs.Bytes.{Block}
-use Rattle.bytes.proofs.Facts.{bytes_take, bytes_drop}
+use Rattle.byte_lists.specs.Bytes.{Block}
+use Rattle.byte_lists.proofs.Facts.{bytes_take, bytes_drop}
 use Rattle.law.specs.Associations.{Hashing, Sized, Master, nonce_of, material, sealer_keys}
 
 cut_block : (t : List ℕ) → Block 64 t → Block 40 (take 40 (drop 16 t))

@@ -1,7 +1,7 @@
 -- The expansion has 64 bytes.
 use Rattle.std.proofs.Common.{ℕ, ◌+◌, List, [], ◌∷◌, ◌++◌, length-append}
-use Rattle.bytes.specs.Bytes.{Block}
-use Rattle.bytes.proofs.Facts.{bytes_append}
+use Rattle.byte_lists.specs.Bytes.{Block}
+use Rattle.byte_lists.proofs.Facts.{bytes_append}
 use Rattle.hmac.specs.Hmac.{hmac}
 use Rattle.hmac.specs.Expansion.{turn, stream}
 use Rattle.hmac.proofs.Codes.{length_hmac, bytes_hmac}

@@ -3,8 +3,8 @@ use Rattle.std.proofs.Common.{◌≡◌, ℕ, zero, suc, ◌+◌, ◌*◌, ◌^�
 use lib.ListN.{get_or-map}
 use Rattle.std.proofs.lemmas.List.{length-take-le}
 use Rattle.std.proofs.lemmas.Bool.{cases_eq}
-use Rattle.bytes.specs.Bytes.{Bytes}
-use Rattle.bytes.specs.Bytes as bytes
+use Rattle.byte_lists.specs.Bytes.{Bytes}
+use Rattle.byte_lists.specs.Bytes as bytes
 use Rattle.sealing.specs.declared.suite.Direction.{Direction}
 use Rattle.sealing.specs.declared.suite.Direction.TheVariants as direction
 use Rattle.sealing.specs.Sealing.{Sealing, Text, text, Good, Faithful}

@@ -5,7 +5,7 @@ use Rattle.sealing.specs.declared.suite.Cipher.TheVariants.{TwoKey, ThreeKey, Ae
 use Rattle.sealing.specs.declared.suite.Mechanism.{Mechanism}
 use Rattle.sealing.specs.declared.suite.Mechanism.TheVariants.{Crc32, Cmac}
 use Rattle.sealing.specs.declared.suite.Suite.{Suite}
-use Rattle.bytes.specs.Bytes.{Block}
+use Rattle.byte_lists.specs.Bytes.{Block}
 use Rattle.hmac.specs.Expansion as first
 use Rattle.personalise.specs.Load.{Lines}
 

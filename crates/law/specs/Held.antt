@@ -1,6 +1,6 @@
 -- What a card holds: the ledger's rows, each within its limits, each resting on what is held, each key as its load wrote it.
 use Rattle.std.specs.Prelude.{◌≡◌, ℕ, ◌≤◌, ◌⊎◌, List, [], ◌∷◌, map, get_or, Some, None, Option, slice_index_or}
-use Rattle.bytes.specs.Bytes as bytes
+use Rattle.byte_lists.specs.Bytes as bytes
 use Rattle.personalise.specs.Load.{Lines}
 use Rattle.personalise.specs.Written.{Good, written}
 use Rattle.law.specs.Calls.{Entry, load, loaded}

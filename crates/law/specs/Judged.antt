@@ -1,6 +1,6 @@
 -- A completed command, and its answer.
 use Rattle.std.specs.Prelude.{◌≡◌, ℕ, suc, ◌+◌, ◌*◌, ◌<◌, ◌≤◌, Bool, true, false, ◌&&◌, ◌||◌, ◌↔◌, List, ◌++◌, length, Some, None, Option, ◌==◌, nat_le}
-use Rattle.bytes.specs.Bytes.{Bytes}
+use Rattle.byte_lists.specs.Bytes.{Bytes}
 use Rattle.sealing.specs.declared.suite.Direction.TheVariants as direction
 use Rattle.sealing.specs.Sealing.{Sealing, Text}
 use Rattle.application.specs.Acts.{Acts, after}

@@ -1,4 +1,6 @@
 // The card's meaning, the ledger that a clerk keeps of it, and the law over all runs of two cards.
+#![tactic(auto)]
+
 ghost use Rattle.law.specs.Associations.{Hashing, Sized};
 ghost use Rattle.law.specs.Hashes.{keyed};
 ghost use Rattle.law.specs.Law.{Law};

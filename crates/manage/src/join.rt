@@ -1,7 +1,7 @@
 // Two strings of bytes, one behind the other.
 ghost use Rattle.std.specs.Prelude.{◌≡◌, ◌+◌, ◌≤◌, ◌++◌, length, take};
 
-use bytes::put;
+use byte_lists::put;
 
 // Writes the two at the start of the buffer, and answers how long they are together.
 pub fn join(buffer: &mut [u8], first: &[u8], second: &[u8]) -> usize

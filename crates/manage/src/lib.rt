@@ -1,4 +1,6 @@
 // MANAGE SECURE CHANNEL: objects gathered from command blocks, carried out, and replies given in blocks.
+#![tactic(auto)]
+
 mod core;
 mod gather;
 mod give;

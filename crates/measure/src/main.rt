@@ -1,4 +1,6 @@
 // How many bytes the card's state has, and how long fares and associations take beside the sealings and the codes in them.
+#![tactic(auto)]
+
 mod association;
 mod card;
 mod fare;

@@ -1,4 +1,6 @@
 // Numbers and bytes as people write them: decimals, and pairs of hexadecimal digits.
+#![tactic(auto)]
+
 mod decimal;
 mod hexadecimal;
 

@@ -2,7 +2,7 @@
 use Rattle.std.proofs.Common.{◌≡◌, ℕ, ◌+◌, ◌<◌, ◌≤◌, List, [], ◌∷◌, ◌++◌, length, take, drop, sym, refl, ap, ◌∙◌, arith}
 use Rattle.std.proofs.lemmas.List.{length-append, length-take-le, take-append-drop}
 use Rattle.std.proofs.lemmas.Bool.Decides.{nat_tests}
-use Rattle.bytes.specs.Bytes.{Bytes}
+use Rattle.byte_lists.specs.Bytes.{Bytes}
 use Rattle.objects.specs.declared.join.Header.{Header}
 use Rattle.objects.specs.declared.join.Header.TheVariants as header
 use Rattle.objects.specs.Joined.{Object, incomplete, bad, value, header_of, filled, under, object}

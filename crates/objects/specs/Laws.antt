@@ -1,6 +1,6 @@
 -- Laws of joined blocks, over all byte strings.
 use Rattle.std.specs.Prelude.{◌≡◌, ℕ, ◌<◌, List, ◌++◌, length, take}
-use Rattle.bytes.specs.Bytes.{Bytes}
+use Rattle.byte_lists.specs.Bytes.{Bytes}
 use Rattle.objects.specs.Joined.{Object, incomplete, bad, value, object}
 
 pub record PrefixFree : Type 0 where

@@ -1,4 +1,6 @@
 //! Objects: what joined command blocks hold, and the requests inside.
+#![tactic(auto)]
+
 pub mod join;
 pub mod law;
 mod read;

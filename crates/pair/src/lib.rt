@@ -1,4 +1,6 @@
 // Two cards, left and right, that differ in the application alone: the same calls are made to both.
+#![tactic(auto)]
+
 mod both;
 mod calls;
 mod cards;

@@ -4,7 +4,7 @@ use Rattle.std.proofs.lemmas.Slice.Eq.{bytes_eq-Decides}
 use Rattle.std.proofs.lemmas.List.{take-append-drop}
 use Rattle.std.proofs.lemmas.Bool.{and_parts, leb-true, eqb-true, ne_eqb}
 use Rattle.std.specs.Str.{bytes_eq}
-use Rattle.bytes.specs.Bytes.{Bytes}
+use Rattle.byte_lists.specs.Bytes.{Bytes}
 use Rattle.numerals.specs.Decimal.{numeral}
 use Rattle.numerals.specs.Hexadecimal.{hex, unhex, sized}
 use Rattle.numerals.proofs.HexWritten.{hex_unhex}

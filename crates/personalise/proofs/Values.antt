@@ -5,7 +5,7 @@ use Rattle.std.proofs.lemmas.Bool.{and_parts, and_from, cond-true, le-leb, ne_eq
 use Rattle.std.proofs.lemmas.Bool.Decides.{nat_tests}
 use Rattle.std.specs.Char.{is_ascii_digit}
 use Rattle.std.specs.Str.{all_ascii_digits}
-use Rattle.bytes.specs.Bytes.{Bytes}
+use Rattle.byte_lists.specs.Bytes.{Bytes}
 use Rattle.numerals.specs.Decimal.{numeral}
 use Rattle.numerals.specs.Hexadecimal.{shown, hex, unhex, sized}
 use Rattle.numerals.proofs.HexWritten.{unhex_hex}

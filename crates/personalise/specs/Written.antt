@@ -1,6 +1,6 @@
 -- A key load as it is written, and the law of reading: exactly what is written so is loaded.
 use Rattle.std.specs.Prelude.{◌≡◌, ℕ, ◌≤◌, Bool, true, false, List, [], ◌∷◌, ◌++◌, length, codes, decimal}
-use Rattle.bytes.specs.Bytes.{Bytes, Block}
+use Rattle.byte_lists.specs.Bytes.{Bytes, Block}
 use Rattle.numerals.specs.Hexadecimal.{hex}
 use Rattle.personalise.specs.Load.{Lines, Loading, malformed, unset, loads, key_of, loading}
 

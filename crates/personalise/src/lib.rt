@@ -1,4 +1,6 @@
 // Key loads: the text that the personaliser gives, and the key that it means.
+#![tactic(auto)]
+
 mod key_load;
 mod limit;
 mod load;

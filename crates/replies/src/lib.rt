@@ -1,4 +1,6 @@
 //! Replies: the objects that the card answers with, and the blocks in which they go out.
+#![tactic(auto)]
+
 pub mod block;
 pub mod law;
 pub mod reply;

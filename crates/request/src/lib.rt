@@ -1,4 +1,6 @@
 // What a command asks of the card.
+#![tactic(auto)]
+
 mod kind;
 mod read;
 mod request;

@@ -1,6 +1,6 @@
 -- The rule of the substitution table at each entry, by one test of the whole table, and that the two tables undo each other.
 use Rattle.std.proofs.Common.{◌≡◌, ℕ, zero, suc, ◌<◌, Bool, cond, T, eqb, ltb, List, length, get_or, sym, refl, subst, lit<, eqb→eq, leb→le}
-use Rattle.bytes.proofs.Tables.{both, both_left, both_right, every, every_at, small_at}
+use Rattle.byte_lists.proofs.Tables.{both, both_left, both_right, every, every_at, small_at}
 use Rattle.sbox.specs.Field.{mul, affine, Substitutes}
 use Rattle.sbox.specs.Tables.{sbox, sub, inv_sbox, inv_sub}
 

@@ -1,8 +1,8 @@
 -- A table of words whose bytes follow a rule: the rule at each entry, by one test of the whole table.
 use Rattle.std.proofs.Common.{◌≡◌, ℕ, ◌<◌, Bool, true, false, T, eqb, List, [], ◌∷◌, map, get_or, refl, eqb→eq}
 use Rattle.std.specs.List.{range_with_len}
-use Rattle.bytes.specs.Numbers.{octets, number}
-use Rattle.bytes.proofs.Tables.{both, both_left, both_right, every, every_at}
+use Rattle.byte_lists.specs.Numbers.{octets, number}
+use Rattle.byte_lists.proofs.Tables.{both, both_left, both_right, every, every_at}
 
 abbrev same : List ℕ → List ℕ → Bool
 same [] [] = true

@@ -1,4 +1,6 @@
 // The tables of AES: substitution, its inverse, and words of products.
+#![tactic(auto)]
+
 mod inverse;
 mod products;
 mod substitution;

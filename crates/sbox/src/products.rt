@@ -1,6 +1,6 @@
 // Words of four products in GF(2^8), each found in a table.
 ghost use Rattle.std.specs.Prelude.{◌≡◌};
-ghost use Rattle.bytes.specs.Numbers.{octets};
+ghost use Rattle.byte_lists.specs.Numbers.{octets};
 ghost use Rattle.sbox.specs.Field.{scaled};
 ghost use Rattle.sbox.specs.Tables.{sub};
 

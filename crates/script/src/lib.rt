@@ -1,4 +1,6 @@
 // A script of calls on two cards: what its lines say.
+#![tactic(auto)]
+
 mod line;
 mod memory;
 mod script;

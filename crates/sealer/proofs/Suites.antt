@@ -1,9 +1,9 @@
 -- What the code finds for one cipher is what its suite asks for.
 use Rattle.std.proofs.Common.{◌≡◌, ℕ, ◌≤◌, cond, List, length, take, drop, Some, None, Option, sym, refl, ap, ◌∙◌, subst}
 use Rattle.std.proofs.lemmas.List.{length-take-le}
-use Rattle.bytes.specs.Bytes.{Bytes, small}
-use Rattle.bytes.proofs.Facts.{bytes_take}
-use Rattle.bytes.proofs.Tables.{small_from}
+use Rattle.byte_lists.specs.Bytes.{Bytes, small}
+use Rattle.byte_lists.proofs.Facts.{bytes_take}
+use Rattle.byte_lists.proofs.Tables.{small_from}
 use Rattle.crc.specs.Crc.{crc}
 use Rattle.envelope.specs.Envelope.{enciphered, deciphered}
 use Rattle.envelope.proofs.Opening.{given}

@@ -1,9 +1,9 @@
 -- The ciphers and mechanisms of the key bytes keep the laws of ciphers and mechanisms.
 use Rattle.std.specs.Prelude.{◌≡◌, ℕ, ◌≤◌, ◌⊎◌, List, drop, refl}
 use Rattle.std.proofs.Common.{inl, inr, lit≤}
-use Rattle.bytes.specs.Bytes.{Bytes, Block}
-use Rattle.bytes.proofs.Facts.{bytes_drop, bytes_take}
-use Rattle.bytes.proofs.Digits.{length_octets, bytes_octets}
+use Rattle.byte_lists.specs.Bytes.{Bytes, Block}
+use Rattle.byte_lists.proofs.Facts.{bytes_drop, bytes_take}
+use Rattle.byte_lists.proofs.Digits.{length_octets, bytes_octets}
 use Rattle.aes.specs.Cipher.{aes_encrypt, aes_decrypt}
 use Rattle.aes.proofs.Permutation.{aes_permutes}
 use Rattle.cipher.specs.Permutes.{Permutes}

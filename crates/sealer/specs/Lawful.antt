@@ -1,8 +1,8 @@
 -- Both sealers keep the laws of sealing.
 use Rattle.std.specs.Prelude.{◌≡◌, ℕ, ◌+◌, ◌≤◌, Bool, true, false, cond, T, List, length, Some, None, Option, refl}
 use Rattle.std.proofs.Common.{ap, sym, ◌∙◌, subst, inl, arith, lit<}
-use Rattle.bytes.specs.Bytes.{Bytes, Block, small}
-use Rattle.bytes.proofs.Tables.{small_at, small_from}
+use Rattle.byte_lists.specs.Bytes.{Bytes, Block, small}
+use Rattle.byte_lists.proofs.Tables.{small_at, small_from}
 use Rattle.crc.specs.Crc.{crc}
 use Rattle.frame.specs.Frame.{frame, front, text_of}
 use Rattle.frame.proofs.Filled.{filled_short}

@@ -1,6 +1,6 @@
 -- The real sealer and the bench sealer.
 use Rattle.std.specs.Prelude.{cond, List, Some, None}
-use Rattle.bytes.specs.Bytes.{small}
+use Rattle.byte_lists.specs.Bytes.{small}
 use Rattle.crc.specs.Crc.{crc}
 use Rattle.sealing.specs.Sealing.{Sealing}
 use Rattle.frame.specs.Frame.{frame, text_of}

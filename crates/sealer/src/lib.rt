@@ -1,4 +1,6 @@
 // The sealers: the real one, and the one for the bench.
+#![tactic(auto)]
+
 mod bench;
 mod keys;
 mod real;

@@ -1,6 +1,6 @@
 -- A sealed string is longer than any refusal's number.
 use Rattle.std.proofs.Common.{◌≡◌, ℕ, ◌+◌, ◌%◌, ◌<◌, ◌⊎◌, List, length, ap, ◌∙◌, arith}
-use Rattle.bytes.specs.Bytes.{Bytes, Block}
+use Rattle.byte_lists.specs.Bytes.{Bytes, Block}
 use Rattle.cipher.specs.Permutes.{Permutes}
 use Rattle.cipher.proofs.Undo.{cbc_undone}
 use Rattle.sealing.specs.Sealing.{Text, Good}

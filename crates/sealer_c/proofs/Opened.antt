@@ -1,9 +1,9 @@
 -- What the caller of an opening gets, from what the sealer says of the working copy.
 use Rattle.std.proofs.Common.{◌≡◌, ℕ, suc, ◌+◌, ◌<◌, ◌≤◌, List, ◌++◌, length, take, drop, Some, None, Option, sym, refl, ap, ◌∙◌, subst, arith, length-append}
 use Rattle.std.proofs.lemmas.List.{take_at}
-use Rattle.bytes.specs.Bytes.{Block}
-use Rattle.bytes.specs.Numbers.{octets}
-use Rattle.bytes.proofs.Digits.{length_octets}
+use Rattle.byte_lists.specs.Bytes.{Block}
+use Rattle.byte_lists.specs.Numbers.{octets}
+use Rattle.byte_lists.proofs.Digits.{length_octets}
 use Rattle.sealing.specs.Lent.{Opens, OpensTo}
 use Rattle.sealing.specs.Sealing.{Sealing, Faithful, Text, Good, text}
 use Rattle.sealing.specs.declared.sealer.Opened.{Opened}

@@ -1,6 +1,6 @@
 -- What a call from C gives: bytes at the start of the caller's buffer and their count, or a refusal's number and nothing written.
 use Rattle.std.specs.Prelude.{◌≡◌, ℕ, ◌<◌, Bool, cond, ◌&&◌, List, ◌∷◌, ◌++◌, length, drop, Some, None, Ok, Err, Option, Result, ◌==◌, nat_le}
-use Rattle.bytes.specs.Numbers.{octets}
+use Rattle.byte_lists.specs.Numbers.{octets}
 use Rattle.sealing.specs.Suites.{cipher_of, mechanism_of, direction_byte, direction_of}
 use Rattle.sealing.specs.Sealing.{Text, text}
 use Rattle.sealing.specs.declared.suite.Suite.{Suite}

@@ -1,4 +1,6 @@
 // Sealing and opening by the real sealer, as calls for C.
+#![tactic(auto)]
+
 mod asked;
 mod calls;
 mod refusal;

@@ -6,7 +6,7 @@ ghost use Rattle.sealer.specs.Sealers.{real};
 ghost use Rattle.sealer_c.specs.Calls.{answer, left, opened_as, plain, Told};
 
 use crate::refusal::Refusal;
-use bytes::put;
+use byte_lists::put;
 use sealer::RealSealer;
 use sealing::{Direction, Sealer, Suite};
 

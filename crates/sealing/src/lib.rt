@@ -1,4 +1,6 @@
 // Sealing: what a text and a suite are, and what every sealer promises.
+#![tactic(auto)]
+
 mod sealer;
 mod suite;
 

@@ -1,4 +1,6 @@
 // Handling secrets: comparing them, and wiping the memory that they are worked out in.
+#![tactic(auto)]
+
 mod compare;
 mod work_area;
 

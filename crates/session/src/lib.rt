@@ -1,4 +1,6 @@
 // A connection's session: idle, gathering a command, or holding an answer.
+#![tactic(auto)]
+
 mod block;
 mod event;
 mod gather;

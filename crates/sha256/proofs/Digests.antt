@@ -1,10 +1,10 @@
 -- A digest is 32 bytes.
 use Rattle.std.proofs.Common.{◌≡◌, ℕ, ◌+◌, ◌*◌, ◌/◌, List, [], ◌∷◌, ◌++◌, length, sym, ap, ◌∙◌, arith, length-append}
 use Rattle.std.specs.List.{flat_map}
-use Rattle.bytes.specs.Bytes.{Bytes}
-use Rattle.bytes.specs.Numbers.{octets}
-use Rattle.bytes.proofs.Digits.{length_octets, bytes_octets}
-use Rattle.bytes.proofs.Facts.{bytes_append, bytes_none}
+use Rattle.byte_lists.specs.Bytes.{Bytes}
+use Rattle.byte_lists.specs.Numbers.{octets}
+use Rattle.byte_lists.proofs.Digits.{length_octets, bytes_octets}
+use Rattle.byte_lists.proofs.Facts.{bytes_append, bytes_none}
 use Rattle.compression.specs.Compression.{in_order}
 use Rattle.sha256.specs.Digest.{digest, hashed, padded}
 

@@ -4,8 +4,8 @@ use lib.ListN.{length-replicate}
 use borrow.Rule.Slice.PartMut.{put_mid}
 use Rattle.std.proofs.lemmas.List.{take_more_set, length-set}
 use Rattle.std.proofs.lemmas.Slice.{take-put_mid}
-use Rattle.bytes.specs.Numbers.{octets}
-use Rattle.bytes.proofs.Digits.{length_octets, octets_low}
+use Rattle.byte_lists.specs.Numbers.{octets}
+use Rattle.byte_lists.proofs.Digits.{length_octets, octets_low}
 use Rattle.sha256.specs.Digest.{zeros, padding}
 
 -- Eight bytes hold a number modulo 2 ^ 64.

@@ -1,7 +1,7 @@
 // Words as bytes.
 ghost use Rattle.std.specs.Prelude.{◌≡◌, ◌*◌, length};
 ghost use Rattle.std.specs.List.{flat_map};
-ghost use Rattle.bytes.specs.Numbers.{octets};
+ghost use Rattle.byte_lists.specs.Numbers.{octets};
 ghost use Rattle.sha256.specs.Digest.{written};
 
 use compression::Eight;

@@ -1,6 +1,6 @@
 // What stands behind a message.
 ghost use Rattle.std.specs.Prelude.{◌≡◌, ◌+◌, ◌*◌, ◌%◌, ◌^◌, ◌<◌, ◌≤◌, length, take};
-ghost use Rattle.bytes.specs.Numbers.{octets};
+ghost use Rattle.byte_lists.specs.Numbers.{octets};
 ghost use Rattle.sha256.specs.Digest.{zeros, padding};
 
 // How many zeros stand between the byte 80 and the length: the fewest that leave room for 8 bytes in the last block.

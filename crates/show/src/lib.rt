@@ -1,4 +1,6 @@
 // Bytes as people read and write them, for the programs.
+#![tactic(auto)]
+
 use numerals::read_hexadecimal;
 use std::alloc::{AllocError, Global};
 

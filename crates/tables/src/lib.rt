@@ -1,4 +1,6 @@
 // What a card holds: four rows each of keys, masters and connections.
+#![tactic(auto)]
+
 mod at;
 mod count;
 mod empty;

@@ -1,4 +1,6 @@
 // The terminal's half of the protocol: what it sends, what it derives, what it checks.
+#![tactic(auto)]
+
 mod channel;
 mod command;
 mod connection;

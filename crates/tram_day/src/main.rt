@@ -1,4 +1,6 @@
 // One fare's day on two cards, from the loading of the key to the depot's total, with a line for each action.
+#![tactic(auto)]
+
 mod cards;
 mod establish;
 mod fare;

@@ -1,4 +1,6 @@
 // TRANSACT DATA: blocks of sealed commands, and the answers to them.
+#![tactic(auto)]
+
 mod accepted;
 mod complete;
 mod fetch;

@@ -1,4 +1,6 @@
 // Runs the published vectors that standard input names, a line each, and says of each what was expected and what came out.
+#![tactic(auto)]
+
 mod algorithm;
 mod readings;
 mod run;

@@ -1,4 +1,6 @@
 // Worked examples of the card's meaning, checked by computing it.
+#![tactic(auto)]
+
 ghost use Rattle.worked.specs.Worked.{Day, Sides, RandomRuns};
 
 // A whole small day runs as it is written down: load, power on, discovery, master, connection, start, a fare in two blocks,

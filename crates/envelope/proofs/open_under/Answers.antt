@@ -1,6 +1,6 @@
 use Rattle.std.proofs.Common.{◌≡◌, ℕ, ◌-◌, List, ap, ◌∙◌, arith, rules}
-use Rattle.bytes.specs.Bytes.{Bytes}
-use Rattle.bytes.proofs.Facts.{bytes_of}
+use Rattle.byte_lists.specs.Bytes.{Bytes}
+use Rattle.byte_lists.proofs.Facts.{bytes_of}
 use Rattle.cipher.specs.Cbc.{cbc}
 use Rattle.envelope.proofs.Opening.{over_front, refused_again, given_again}
 use Rattle.envelope.proofs.open_under.Goals as goal

@@ -1,5 +1,5 @@
 use Rattle.std.proofs.Common.{refl}
-use Rattle.bytes.specs.Numbers.{octets}
+use Rattle.byte_lists.specs.Numbers.{octets}
 use Rattle.objects.specs.Fields.{taken, left}
 use Rattle.worked.proofs.day_runs.Goals as goal
 

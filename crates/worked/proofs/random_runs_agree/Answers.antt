@@ -1,5 +1,5 @@
 use Rattle.std.proofs.Common.{refl}
-use Rattle.bytes.specs.Numbers.{octets}
+use Rattle.byte_lists.specs.Numbers.{octets}
 use Rattle.objects.specs.Fields.{taken, left}
 use Rattle.worked.proofs.random_runs_agree.Goals as goal
 

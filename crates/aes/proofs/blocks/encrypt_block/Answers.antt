@@ -1,5 +1,5 @@
 use Rattle.std.proofs.Common.{ap, ◌∙◌, arith}
-use Rattle.bytes.specs.Bytes.{xors}
+use Rattle.byte_lists.specs.Bytes.{xors}
 use Rattle.aes.specs.Columns.{state_bytes}
 use Rattle.aes.specs.Words.{bytes_of}
 use Rattle.aes.proofs.Rounds.{rounds_none, rounds_more, encrypted_made}

@@ -1,5 +1,5 @@
 use Rattle.std.proofs.Common.{get_or, sym, ap, ◌∙◌}
-use Rattle.bytes.proofs.Digits.{octets_four}
+use Rattle.byte_lists.proofs.Digits.{octets_four}
 use Rattle.aes.proofs.column.byte_in.Goals as goal
 
 pub returns : goal.returns

@@ -1,5 +1,5 @@
 use Rattle.std.proofs.Common.{ap, ◌∙◌}
-use Rattle.bytes.specs.Numbers.{octets}
+use Rattle.byte_lists.specs.Numbers.{octets}
 use Rattle.sbox.specs.Field.{scaled}
 use Rattle.aes.proofs.Lookup.{column_of_words}
 use Rattle.aes.proofs.column.inv_mixed.Goals as goal

@@ -1,4 +1,4 @@
-use Rattle.bytes.specs.Numbers.{octets}
+use Rattle.byte_lists.specs.Numbers.{octets}
 use Rattle.aes.proofs.column.sub_word.Goals as goal
 
 pub returns : goal.returns

@@ -1,5 +1,5 @@
 use Rattle.std.proofs.Common.{ap, ◌∙◌}
-use Rattle.bytes.specs.Numbers.{octets}
+use Rattle.byte_lists.specs.Numbers.{octets}
 use Rattle.aes.proofs.WordBytes.{turned_right}
 use Rattle.aes.proofs.column.turned_right.Goals as goal
 

@@ -1,5 +1,5 @@
 use Rattle.std.proofs.Common.{sym, ◌∙◌}
-use Rattle.bytes.proofs.Digits.{octets_four}
+use Rattle.byte_lists.proofs.Digits.{octets_four}
 use Rattle.aes.specs.Parts.{written}
 use Rattle.aes.proofs.transfer.write.Goals as goal
 

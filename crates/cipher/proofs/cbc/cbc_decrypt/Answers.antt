@@ -1,6 +1,6 @@
 use Rattle.std.proofs.Common.{rules}
-use Rattle.bytes.specs.Bytes.{Bytes}
-use Rattle.bytes.proofs.Facts.{bytes_of}
+use Rattle.byte_lists.specs.Bytes.{Bytes}
+use Rattle.byte_lists.proofs.Facts.{bytes_of}
 use Rattle.cipher.proofs.Undo.{decrypted_undone}
 use Rattle.cipher.proofs.cbc.cbc_decrypt.Goals as goal
 

@@ -1,6 +1,6 @@
 use Rattle.std.proofs.Common.{◌≡◌, ◌+◌, ◌*◌, ◌/◌, ◌%◌, ◌≤◌, length, get_or, sym, ap, ◌∙◌, arith}
 use Rattle.std.proofs.lemmas.List.{get_or_past}
-use Rattle.bytes.proofs.Written.{over, over_all}
+use Rattle.byte_lists.proofs.Written.{over, over_all}
 use Rattle.cmac.specs.Cmac.{shifted}
 use Rattle.cmac.specs.Shift.{shift_more, length_shifted}
 use Rattle.cmac.proofs.double.shift_left.Goals as goal

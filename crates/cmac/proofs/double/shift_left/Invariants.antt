@@ -1,5 +1,5 @@
 use Rattle.std.proofs.Common.{◌≡◌}
-use Rattle.bytes.proofs.Written.{over}
+use Rattle.byte_lists.proofs.Written.{over}
 use Rattle.cmac.specs.Cmac.{shifted}
 use Rattle.cmac.proofs.double.shift_left.Given as goal
 

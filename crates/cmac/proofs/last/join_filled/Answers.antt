@@ -1,7 +1,7 @@
 use Rattle.std.proofs.Common.{◌-◌, ◌<◌, ◌≤◌, cond, length, get_or, set, sym, ap, ◌∙◌, arith}
 use lib.Bits.{bit_xor}
 use Rattle.std.proofs.lemmas.Bool.{eqb-false}
-use Rattle.bytes.specs.Bytes.{xors}
+use Rattle.byte_lists.specs.Bytes.{xors}
 use Rattle.cmac.specs.Cmac.{padded}
 use Rattle.cmac.specs.Joins.{joined_front, xors_behind}
 use Rattle.cmac.proofs.last.join_filled.Goals as goal

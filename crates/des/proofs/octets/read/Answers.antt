@@ -1,5 +1,5 @@
 use Rattle.std.proofs.Common.{◌≡◌, ap, ◌∙◌, arith}
-use Rattle.bytes.specs.Numbers.{number}
+use Rattle.byte_lists.specs.Numbers.{number}
 use Rattle.des.specs.Listed.{eight, eight_is}
 use Rattle.des.proofs.octets.read.Goals as goal
 

@@ -1,5 +1,5 @@
 use Rattle.std.proofs.Common.{sym, ◌∙◌}
-use Rattle.bytes.proofs.Digits.{octets_eight}
+use Rattle.byte_lists.proofs.Digits.{octets_eight}
 use Rattle.des.proofs.octets.write.Goals as goal
 
 pub returns : goal.returns

@@ -1,5 +1,5 @@
 use Rattle.std.proofs.Common.{◌≡◌}
-use Rattle.bytes.specs.Bytes.{xors}
+use Rattle.byte_lists.specs.Bytes.{xors}
 use Rattle.des_tables.specs.Bits.{bits}
 use Rattle.des.specs.Des.{mixed}
 use Rattle.des.proofs.Mixing.{rest, inward}

@@ -1,5 +1,5 @@
 use Rattle.std.proofs.Common.{map, sym, ap, ◌∙◌}
-use Rattle.bytes.specs.Numbers.{octets}
+use Rattle.byte_lists.specs.Numbers.{octets}
 use Rattle.des_tables.specs.Bits.{bits, value}
 use Rattle.des_tables.proofs.Bits.{value_bits}
 use Rattle.des.specs.Des.{crypt, ciphered}

@@ -1,6 +1,6 @@
 use Rattle.std.proofs.Common.{◌≡◌, ℕ, ◌+◌, ◌*◌, List, [], ◌∷◌, length, get_or, sym, refl, ap, ◌∙◌, arith}
 use Rattle.std.proofs.lemmas.List.{drop_more, drop_all}
-use Rattle.bytes.specs.Numbers.{number}
+use Rattle.byte_lists.specs.Numbers.{number}
 use Rattle.fares.proofs.append.amount_in.Goals as goal
 
 -- A list of four, spelt out.

@@ -1,5 +1,5 @@
 use Rattle.std.proofs.Common.{sym, ◌∙◌}
-use Rattle.bytes.proofs.Digits.{octets_eight}
+use Rattle.byte_lists.proofs.Digits.{octets_eight}
 use Rattle.fares.proofs.run.eight_bytes.Goals as goal
 
 pub returns : goal.returns

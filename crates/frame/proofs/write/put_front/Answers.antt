@@ -1,8 +1,8 @@
 use Rattle.std.proofs.Common.{◌≡◌, ℕ, List, [], ◌∷◌, ◌++◌, length, drop, sym, refl, ap, ◌∙◌, arith, length-append}
 use Rattle.std.proofs.lemmas.List.{append_assoc}
-use Rattle.bytes.specs.Numbers.{octets}
-use Rattle.bytes.proofs.Digits.{octets_two, octets_eight}
-use Rattle.bytes.proofs.Written.{put_more}
+use Rattle.byte_lists.specs.Numbers.{octets}
+use Rattle.byte_lists.proofs.Digits.{octets_two, octets_eight}
+use Rattle.byte_lists.proofs.Written.{put_more}
 use Rattle.frame.specs.Frame.{front}
 use Rattle.sealing.specs.Sealing.{text}
 use Rattle.sealing.specs.Suites.{direction_byte}

@@ -1,5 +1,5 @@
 use Rattle.std.proofs.Common.{◌<◌, rules}
-use Rattle.bytes.specs.Numbers.{octets}
+use Rattle.byte_lists.specs.Numbers.{octets}
 use Rattle.sbox.specs.Field.{mul, scaled}
 use Rattle.sbox.specs.Tables.{sbox, sub}
 use Rattle.sbox.proofs.WordRule.{word_rule}

@@ -1,7 +1,7 @@
 use Rattle.std.proofs.Common.{◌≡◌, ℕ, ◌+◌, ◌-◌, ◌≤◌, List, length, take, drop, Some, None, ap, ◌∙◌, arith, rules}
 use Rattle.std.proofs.lemmas.List.{length-take}
-use Rattle.bytes.specs.Bytes.{Block}
-use Rattle.bytes.proofs.Facts.{bytes_of}
+use Rattle.byte_lists.specs.Bytes.{Block}
+use Rattle.byte_lists.proofs.Facts.{bytes_of}
 use Rattle.sealing.specs.declared.sealer.Opened.{Opened}
 use Rattle.sealer.specs.Sealers.{real}
 use Rattle.sealer.specs.Lawful.{real_faithful}

@@ -1,6 +1,6 @@
 use Rattle.std.proofs.Common.{ℕ, List, length, arith, rules}
-use Rattle.bytes.specs.Bytes.{Block}
-use Rattle.bytes.proofs.Facts.{bytes_of}
+use Rattle.byte_lists.specs.Bytes.{Block}
+use Rattle.byte_lists.proofs.Facts.{bytes_of}
 use Rattle.sealing.specs.Sealing.{Text, Good, text}
 use Rattle.sealer_c.proofs.Long.{sealed_long}
 use Rattle.sealer_c.proofs.texts.seal_text.Goals as goal

@@ -2,8 +2,8 @@ use Rattle.std.proofs.Common.{◌≡◌, ℕ, ◌+◌, ◌-◌, ◌*◌, ◌<◌
 use Rattle.std.specs.List.{flat_map}
 use Rattle.std.proofs.lemmas.List.{take_more, take_all, flat_map_more}
 use Rattle.std.proofs.lemmas.Slice.{take-put_mid}
-use Rattle.bytes.specs.Numbers.{octets}
-use Rattle.bytes.proofs.Digits.{octets_four, length_octets}
+use Rattle.byte_lists.specs.Numbers.{octets}
+use Rattle.byte_lists.proofs.Digits.{octets_four, length_octets}
 use Rattle.sha256.proofs.output.put_words.Goals as goal
 
 pub loop-i-preserved : goal.loop-i-preserved

@@ -1,6 +1,6 @@
 use Rattle.std.proofs.Common.{◌*◌, sym, ap, ◌∙◌}
-use Rattle.bytes.specs.Numbers.{octets}
-use Rattle.bytes.proofs.Digits.{octets_eight}
+use Rattle.byte_lists.specs.Numbers.{octets}
+use Rattle.byte_lists.proofs.Digits.{octets_eight}
 use Rattle.sha256.proofs.Padding.{octets_mod}
 use Rattle.sha256.proofs.pad.bits.Goals as goal
 

@@ -1,6 +1,6 @@
 use Rattle.std.proofs.Common.{◌≡◌, ℕ, ◌*◌, List, drop, ap, ◌∙◌}
 use Rattle.std.proofs.lemmas.List.{take_rest}
-use Rattle.bytes.specs.Bytes.{xors}
+use Rattle.byte_lists.specs.Bytes.{xors}
 use Rattle.cmac.specs.Cmac.{zeros, masked, absorbed, cmac}
 use Rattle.cmac.proofs.check.CmacIntegrity.write_check.Goals as goal
 

@@ -1,6 +1,6 @@
 use Rattle.std.proofs.Common.{sym, ap, ◌∙◌}
-use Rattle.bytes.specs.Numbers.{octets}
-use Rattle.bytes.proofs.Digits.{octets_four}
+use Rattle.byte_lists.specs.Numbers.{octets}
+use Rattle.byte_lists.proofs.Digits.{octets_four}
 use Rattle.crc.specs.Crc.{crc}
 use Rattle.crc.proofs.check.Crc32Integrity.write_check.Goals as goal
 

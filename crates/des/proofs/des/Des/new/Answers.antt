@@ -1,6 +1,6 @@
 use Rattle.std.proofs.Common.{◌≡◌, ℕ, List, map, reverse, sym, ap, ◌∙◌}
-use Rattle.bytes.specs.Bytes.{Block}
-use Rattle.bytes.specs.Numbers.{number}
+use Rattle.byte_lists.specs.Bytes.{Block}
+use Rattle.byte_lists.specs.Numbers.{number}
 use Rattle.des_tables.specs.Bits.{bits}
 use Rattle.des.specs.Schedule.{schedule}
 use Rattle.des.specs.Des.{ciphered}

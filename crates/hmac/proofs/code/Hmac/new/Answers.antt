@@ -1,6 +1,6 @@
 use Rattle.std.proofs.Common.{[], sym, ap, ◌∙◌, subst}
 use Rattle.std.proofs.lemmas.List.{append-nil}
-use Rattle.bytes.specs.Bytes.{xors}
+use Rattle.byte_lists.specs.Bytes.{xors}
 use Rattle.sha256.specs.Took.{Took}
 use Rattle.hmac.specs.Hmac.{ipad, opad, inner_key, outer_key}
 use Rattle.hmac.proofs.code.Hmac.new.Goals as goal

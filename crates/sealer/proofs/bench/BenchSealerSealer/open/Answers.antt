@@ -1,6 +1,6 @@
 use Rattle.std.proofs.Common.{◌≡◌, ℕ, ◌-◌, take, ap, ◌∙◌, arith, rules}
-use Rattle.bytes.specs.Bytes.{Bytes}
-use Rattle.bytes.proofs.Facts.{bytes_of}
+use Rattle.byte_lists.specs.Bytes.{Bytes}
+use Rattle.byte_lists.proofs.Facts.{bytes_of}
 use Rattle.crc.specs.Crc.{crc}
 use Rattle.frame.specs.Frame.{text_of, told}
 use Rattle.sealer.proofs.Suites.{read_is_opened}

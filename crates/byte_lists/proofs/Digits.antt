@@ -3,8 +3,8 @@ use Rattle.std.proofs.Common.{◌≡◌, ℕ, zero, suc, ◌+◌, ◌*◌, ◌/�
 use native.Mathlib.Nat.{mul-add-div_right, pow-succ'}
 use lib.Arith.{digits_lt, digits_div, mod-mul}
 use Rattle.std.specs.Int.Digits.{number_from_digits_after}
-use Rattle.bytes.specs.Bytes.{Bytes}
-use Rattle.bytes.specs.Numbers.{octets, number}
+use Rattle.byte_lists.specs.Bytes.{Bytes}
+use Rattle.byte_lists.specs.Numbers.{octets, number}
 
 pub length_octets : (n x : ℕ) → length (octets n x) ≡ n
 unfolding octets

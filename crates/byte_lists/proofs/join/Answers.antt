@@ -1,9 +1,9 @@
 use Rattle.std.proofs.Common.{◌≡◌, ◌<◌, length, get_or, set, sym, ap, ◌∙◌, arith}
 use lib.Bits.{bit_xor}
-use Rattle.bytes.specs.Bytes.{xors}
-use Rattle.bytes.proofs.Facts.{length_xors, get_or_xors}
-use Rattle.bytes.proofs.Written.{over, over_more, over_read, over_all}
-use Rattle.bytes.proofs.join.Goals as goal
+use Rattle.byte_lists.specs.Bytes.{xors}
+use Rattle.byte_lists.proofs.Facts.{length_xors, get_or_xors}
+use Rattle.byte_lists.proofs.Written.{over, over_more, over_read, over_all}
+use Rattle.byte_lists.proofs.join.Goals as goal
 
 pub loop-i-preserved : goal.loop-i-preserved
 loop-i-preserved c =

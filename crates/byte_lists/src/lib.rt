@@ -1,6 +1,8 @@
 // Bytes: exclusive or in place.
+#![tactic(auto)]
+
 ghost use Rattle.std.specs.Prelude.{◌≡◌, ◌+◌, ◌≤◌, ◌++◌, length, take, drop};
-ghost use Rattle.bytes.specs.Bytes.{xors};
+ghost use Rattle.byte_lists.specs.Bytes.{xors};
 
 // Joins `with` into `block` by exclusive or, byte by byte.
 pub fn join(block: &mut [u8], with: &[u8])
