@@ -8,6 +8,6 @@ returns c =
     let at : ℕ = c.args.at in
     let n : ℕ = length c.args.part.now in
     let e : (at + n) - at ≡ n = omega arith in
-    ap (λ k. take at b ++ (c.copy-from-slice.new.self ++ drop k (drop at b))) e
-    ∙ ap (λ ys. take at b ++ (ys ++ drop n (drop at b))) c.copy-from-slice.ensures.after
+    ap (λ k. take at b ++ (c.copy_from_slice.new.self ++ drop k (drop at b))) e
+    ∙ ap (λ ys. take at b ++ (ys ++ drop n (drop at b))) c.copy_from_slice.ensures.after
     ∙ ap (λ zs. take at b ++ (c.args.part.now ++ zs)) (drop-drop n at b)
