@@ -9,18 +9,18 @@ pub returns : goal.returns
 returns g c =
     let n : ℕ = g.C.BlockCipher.size in
     let E : List ℕ → List ℕ = g.C.BlockCipher.enc c.args.cipher.now in
-    let block : c.block-len.result ≡ n = c.block-len.ensures in
+    let block : c.block_len.result ≡ n = c.block_len.ensures in
     let check : List ℕ → List ℕ = g.I.Integrity.check c.args.mechanism.now in
-    let f : List ℕ = frame c.block-len.result check (text c.args.direction c.args.number c.args.body.now) in
+    let f : List ℕ = frame c.block_len.result check (text c.args.direction c.args.number c.args.body.now) in
     let orig : List ℕ = c.args.out.now in
-    let out : List ℕ = c.write-frame-len.new.out in
-    let len : ℕ = c.write-frame-len.result in
-    let w = c.write-frame-len.ensures.frame in
+    let out : List ℕ = c.write_frame-len.new.out in
+    let len : ℕ = c.write_frame-len.result in
+    let w = c.write_frame-len.ensures.frame in
     let size : len - 0 ≡ length f = omega (arith, w.len) in
     let front : take (len - 0) out ≡ f = ap (take (len - 0)) w.bytes ∙ take_at f (drop (length f) orig) (len - 0) (sym size) in
     let behind : drop (len - 0) out ≡ drop (length f) orig = ap (drop (len - 0)) w.bytes ∙ drop_at f (drop (length f) orig) (len - 0) (sym size) in
-    let is : c.cbc-encrypt.new.buf ≡ cbc n E f = c.cbc-encrypt.ensures.is ∙ ap (cbc n E) front in
-    let long : length (cbc n E f) ≡ length f = ap length (sym is) ∙ c.cbc-encrypt.auto.buf ∙ ap length front in
+    let is : c.cbc_encrypt.new.buf ≡ cbc n E f = c.cbc_encrypt.ensures.is ∙ ap (cbc n E) front in
+    let long : length (cbc n E f) ≡ length f = ap length (sym is) ∙ c.cbc_encrypt.auto.buf ∙ ap length front in
     let as-meant : cbc n E f ≡ cbc n E (frame n check (text c.args.direction c.args.number c.args.body.now)) =
     ap (λ m. cbc n E (frame m check (text c.args.direction c.args.number c.args.body.now))) block in
     record {

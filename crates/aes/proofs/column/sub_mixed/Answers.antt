@@ -8,9 +8,9 @@ use Rattle.aes.proofs.column.sub_mixed.Goals as goal
 pub returns : goal.returns
 unfolding sub_bytes
 returns c =
-    column_of_words 2 3 1 1 _ _ _ _ c.sub-mix.result c.sub-mix-2.result c.sub-mix-3.result c.sub-mix-4.result c.turned-sum.result
-    (c.sub-mix.ensures ∙ ap (λ y. scaled 2 1 1 3 (sub y)) c.byte-in.ensures)
-    (c.sub-mix-2.ensures ∙ ap (λ y. scaled 2 1 1 3 (sub y)) c.byte-in-2.ensures)
-    (c.sub-mix-3.ensures ∙ ap (λ y. scaled 2 1 1 3 (sub y)) c.byte-in-3.ensures)
-    (c.sub-mix-4.ensures ∙ ap (λ y. scaled 2 1 1 3 (sub y)) c.byte-in-4.ensures)
-    c.turned-sum.ensures
+    column_of_words 2 3 1 1 _ _ _ _ c.sub_mix.result c.sub_mix-2.result c.sub_mix-3.result c.sub_mix-4.result c.turned_sum.result
+    (c.sub_mix.ensures ∙ ap (λ y. scaled 2 1 1 3 (sub y)) c.byte_in.ensures)
+    (c.sub_mix-2.ensures ∙ ap (λ y. scaled 2 1 1 3 (sub y)) c.byte_in-2.ensures)
+    (c.sub_mix-3.ensures ∙ ap (λ y. scaled 2 1 1 3 (sub y)) c.byte_in-3.ensures)
+    (c.sub_mix-4.ensures ∙ ap (λ y. scaled 2 1 1 3 (sub y)) c.byte_in-4.ensures)
+    c.turned_sum.ensures

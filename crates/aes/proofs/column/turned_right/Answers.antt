@@ -4,4 +4,4 @@ use Rattle.aes.proofs.WordBytes.{turned_right}
 use Rattle.aes.proofs.column.turned_right.Goals as goal
 
 pub returns : goal.returns
-returns c = ap (octets 4) c.rotate-right.ensures ∙ turned_right c.args.word c.args.bytes c.requires.0 c.requires.1 c.ranges.word.fits
+returns c = ap (octets 4) c.rotate_right.ensures ∙ turned_right c.args.word c.args.bytes c.requires.0 c.requires.1 c.ranges.word.fits

@@ -7,11 +7,11 @@ use Rattle.aes.proofs.expansion.expand.Goals as goal
 
 pub loop-n-init : goal.loop-n-init
 loop-n-init c =
-    key_words c.args.key.now c.copy-from-slice.new.self _ c.word-at.result c.word-at-2.result c.word-at-3.result c.word-at-4.result
-    c.requires.0 c.copy-from-slice.ensures.after c.word-at.ensures c.word-at-2.ensures c.word-at-3.ensures c.word-at-4.ensures
+    key_words c.args.key.now c.copy_from_slice.new.self _ c.word_at.result c.word_at-2.result c.word_at-3.result c.word_at-4.result
+    c.requires.0 c.copy_from_slice.ensures.after c.word_at.ensures c.word_at-2.ensures c.word_at-3.ensures c.word_at-4.ensures
 
 pub loop-n-preserved : goal.loop-n-preserved
-loop-n-preserved c = extended_more c.args.key.now c.loop-n.keys c.loop-n.n c.joining-word.result (omega arith) c.joining-word.ensures c.loop-n.invariant
+loop-n-preserved c = extended_more c.args.key.now c.loop-n.keys c.loop-n.n c.joining_word.result (omega arith) c.joining_word.ensures c.loop-n.invariant
 
 pub returns : goal.returns
 returns c =

@@ -4,5 +4,5 @@ use Rattle.aes.proofs.round.shifted_back.Goals as goal
 pub returns : goal.returns
 returns c =
     let s = c.args.s in
-    shifted_back_made s.c0 s.c1 s.c2 s.c3 c.inv-substituted.result c.inv-substituted-2.result c.inv-substituted-3.result c.inv-substituted-4.result
-    c.inv-substituted.ensures c.inv-substituted-2.ensures c.inv-substituted-3.ensures c.inv-substituted-4.ensures
+    shifted_back_made s.c0 s.c1 s.c2 s.c3 c.inv_substituted.result c.inv_substituted-2.result c.inv_substituted-3.result c.inv_substituted-4.result
+    c.inv_substituted.ensures c.inv_substituted-2.ensures c.inv_substituted-3.ensures c.inv_substituted-4.ensures

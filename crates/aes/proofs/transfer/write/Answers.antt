@@ -7,7 +7,7 @@ pub returns : goal.returns
 returns c =
     let s = c.args.s in
     written c.args.block.now _ _ _ _ s.c0 s.c1 s.c2 s.c3 c.requires
-    (c.copy-from-slice.ensures.after ∙ c.to-be-bytes.ensures ∙ sym (octets_four s.c0))
-    (c.copy-from-slice-2.ensures.after ∙ c.to-be-bytes-2.ensures ∙ sym (octets_four s.c1))
-    (c.copy-from-slice-3.ensures.after ∙ c.to-be-bytes-3.ensures ∙ sym (octets_four s.c2))
-    (c.copy-from-slice-4.ensures.after ∙ c.to-be-bytes-4.ensures ∙ sym (octets_four s.c3))
+    (c.copy_from_slice.ensures.after ∙ c.to_be_bytes.ensures ∙ sym (octets_four s.c0))
+    (c.copy_from_slice-2.ensures.after ∙ c.to_be_bytes-2.ensures ∙ sym (octets_four s.c1))
+    (c.copy_from_slice-3.ensures.after ∙ c.to_be_bytes-3.ensures ∙ sym (octets_four s.c2))
+    (c.copy_from_slice-4.ensures.after ∙ c.to_be_bytes-4.ensures ∙ sym (octets_four s.c3))

@@ -6,6 +6,6 @@ use Rattle.apdu.proofs.reply.put_reply.Goals as goal
 
 pub returns : goal.returns
 returns c = record {
-  len = ap (λ n. length c.args.data.now + n) c.put-status.ensures.len ∙ sym (length-append c.args.data.now (status_bytes c.args.status));
-  written = front_past c.args.buffer.now c.args.data.now (status_bytes c.args.status) _ _ _ c.put.ensures c.put-status.ensures.written refl;
+  len = ap (λ n. length c.args.data.now + n) c.put_status.ensures.len ∙ sym (length-append c.args.data.now (status_bytes c.args.status));
+  written = front_past c.args.buffer.now c.args.data.now (status_bytes c.args.status) _ _ _ c.put.ensures c.put_status.ensures.written refl;
 }

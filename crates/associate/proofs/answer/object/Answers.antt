@@ -6,22 +6,22 @@ use Rattle.associate.proofs.answer.object.Goals as goal
 fits : (o rest b : List ℕ) (n : ℕ) → b ≡ o ++ rest → n ≡ length o → length b ≡ 62 → n ≤ 62
 fits o rest b n e s l = omega (arith, ap length e, length-append o rest)
 
-pub slice-bounds-bytes-end : goal.slice-bounds-bytes-end
-slice-bounds-bytes-end c =
+pub slice_bounds-bytes-end : goal.slice_bounds-bytes-end
+slice_bounds-bytes-end c =
     let o = reply_object c.args.reply.now in
     let rest = drop c.write-len.result c.blank-bytes.result in
     let f : c.write-len.result ≤ 62 = fits o rest c.write-len.new.buffer c.write-len.result c.write-len.ensures.after c.write-len.ensures.size c.write-len.array_long in
     omega arith
 
-pub slice-bounds-from-slice-end : goal.slice-bounds-from-slice-end
-slice-bounds-from-slice-end c =
+pub slice_bounds-from_slice-end : goal.slice_bounds-from_slice-end
+slice_bounds-from_slice-end c =
     let o = reply_object c.args.reply.now in
     let rest = drop c.write-len.result c.blank-bytes.result in
     let f : c.write-len.result ≤ 62 = fits o rest c.write-len.new.buffer c.write-len.result c.write-len.ensures.after c.write-len.ensures.size c.write-len.array_long in
     sym (length-take-le c.write-len.result c.write-len.new.buffer (omega arith))
 
-pub from-slice-requires : goal.from-slice-requires
-from-slice-requires c =
+pub from_slice-requires : goal.from_slice-requires
+from_slice-requires c =
     let o = reply_object c.args.reply.now in
     let rest = drop c.write-len.result c.blank-bytes.result in
     let f : c.write-len.result ≤ 62 = fits o rest c.write-len.new.buffer c.write-len.result c.write-len.ensures.after c.write-len.ensures.size c.write-len.array_long in
@@ -31,4 +31,4 @@ pub returns : goal.returns
 returns c =
     let o = reply_object c.args.reply.now in
     let rest = drop c.write-len.result c.blank-bytes.result in
-    c.from-slice.ensures ∙ ap (take c.write-len.result) c.write-len.ensures.after ∙ take_at o rest c.write-len.result (sym c.write-len.ensures.size)
+    c.from_slice.ensures ∙ ap (take c.write-len.result) c.write-len.ensures.after ∙ take_at o rest c.write-len.result (sym c.write-len.ensures.size)

@@ -9,11 +9,11 @@ use Rattle.associate.proofs.Outcomes.{end_is}
 use Rattle.associate.proofs.Carried.{unreadable, carried}
 use Rattle.associate.proofs.carry.carry_end.Goals as goal
 
-pub returns-in-default : goal.returns-in-default
-returns-in-default c =
+pub returns-in_default : goal.returns-in_default
+returns-in_default c =
     let t = c.args.tables.now in
     record {
-      outcome = λ random. unreadable keyed (tables_of t) random (asked_end c.args.value.now) (ap seen_end (sym c.in-default.is) ∙ c.read.ensures.asks);
+      outcome = λ random. unreadable keyed (tables_of t) random (asked_end c.args.value.now) (ap seen_end (sym c.in_default.is) ∙ c.read.ensures.asks);
       answers = all_kept t.connections;
     }
 
@@ -23,7 +23,7 @@ returns c =
     let q = c.in-Some.request in
     record {
       outcome = λ random. carried keyed (tables_of t) random (asked_end c.args.value.now) (seen_end (Some q)) (end_steps keyed (tables_of t) q.named q.mac.now)
-          (tables_of c.terminate.new.tables) (ended c.terminate.result) (sent c.without-object.result)
-          c.in-Some.ensures.asks (end_is keyed (tables_of t) random q) c.terminate.ensures.steps c.without-object.ensures;
+          (tables_of c.terminate.new.tables) (ended c.terminate.result) (sent c.without_object.result)
+          c.in-Some.ensures.asks (end_is keyed (tables_of t) random q) c.terminate.ensures.steps c.without_object.ensures;
       answers = c.terminate.ensures.answers (all_kept t.connections);
     }

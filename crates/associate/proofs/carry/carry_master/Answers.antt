@@ -9,11 +9,11 @@ use Rattle.associate.proofs.Outcomes.{master_is}
 use Rattle.associate.proofs.Carried.{unreadable, carried}
 use Rattle.associate.proofs.carry.carry_master.Goals as goal
 
-pub returns-in-default : goal.returns-in-default
-returns-in-default c =
+pub returns-in_default : goal.returns-in_default
+returns-in_default c =
     let t = c.args.tables.now in
     record {
-      outcome = unreadable keyed (tables_of t) c.args.random.now (asked_master c.args.value.now) (ap seen_master (sym c.in-default.is) ∙ c.read.ensures.asks);
+      outcome = unreadable keyed (tables_of t) c.args.random.now (asked_master c.args.value.now) (ap seen_master (sym c.in_default.is) ∙ c.read.ensures.asks);
       answers = all_kept t.connections;
     }
 
@@ -23,7 +23,7 @@ returns c =
     let q = c.in-Some.request in
     record {
       outcome = carried keyed (tables_of t) c.args.random.now (asked_master c.args.value.now) (seen_master (Some q)) (master_steps keyed (tables_of t) c.args.random.now q.reference.now q.mechanisms)
-          (tables_of c.establish-master.new.tables) (replied c.establish-master.result) (sent c.with-object.result)
-          c.in-Some.ensures.asks (master_is keyed (tables_of t) c.args.random.now q.reference.now q.mechanisms) c.establish-master.ensures.steps c.with-object.ensures;
-      answers = c.establish-master.ensures.answers (all_kept t.connections);
+          (tables_of c.establish_master.new.tables) (replied c.establish_master.result) (sent c.with_object.result)
+          c.in-Some.ensures.asks (master_is keyed (tables_of t) c.args.random.now q.reference.now q.mechanisms) c.establish_master.ensures.steps c.with_object.ensures;
+      answers = c.establish_master.ensures.answers (all_kept t.connections);
     }

@@ -20,7 +20,7 @@ pub returns-in-Terminate : goal.returns-in-Terminate
 returns-in-Terminate c =
     let random = c.args.random.now in
     record {
-      outcome = of_kind keyed (tables_of c.args.tables.now) random c.args.value.now c.args.kind Terminate (done (tables_of c.carry-end.new.tables) (sent c.carry-end.result))
-          c.in-Terminate.is (c.carry-end.ensures.outcome random);
-      answers = c.carry-end.ensures.answers;
+      outcome = of_kind keyed (tables_of c.args.tables.now) random c.args.value.now c.args.kind Terminate (done (tables_of c.carry_end.new.tables) (sent c.carry_end.result))
+          c.in-Terminate.is (c.carry_end.ensures.outcome random);
+      answers = c.carry_end.ensures.answers;
     }

@@ -9,11 +9,11 @@ use Rattle.associate.proofs.Outcomes.{start_is}
 use Rattle.associate.proofs.Carried.{unreadable, carried}
 use Rattle.associate.proofs.carry.carry_start.Goals as goal
 
-pub returns-in-default : goal.returns-in-default
-returns-in-default c =
+pub returns-in_default : goal.returns-in_default
+returns-in_default c =
     let t = c.args.tables.now in
     record {
-      outcome = λ random. unreadable keyed (tables_of t) random (asked_start c.args.value.now) (ap seen_start (sym c.in-default.is) ∙ c.read.ensures.asks);
+      outcome = λ random. unreadable keyed (tables_of t) random (asked_start c.args.value.now) (ap seen_start (sym c.in_default.is) ∙ c.read.ensures.asks);
       answers = all_kept t.connections;
     }
 
@@ -23,7 +23,7 @@ returns c =
     let q = c.in-Some.request in
     record {
       outcome = λ random. carried keyed (tables_of t) random (asked_start c.args.value.now) (seen_start (Some q)) (start_steps keyed (tables_of t) q.connection.now q.container q.mac.now)
-          (tables_of c.start.new.tables) (replied c.start.result) (sent c.with-object.result)
-          c.in-Some.ensures.asks (start_is keyed (tables_of t) random q.connection.now q.container q.mac.now) c.start.ensures.steps c.with-object.ensures;
+          (tables_of c.start.new.tables) (replied c.start.result) (sent c.with_object.result)
+          c.in-Some.ensures.asks (start_is keyed (tables_of t) random q.connection.now q.container q.mac.now) c.start.ensures.steps c.with_object.ensures;
       answers = c.start.ensures.answers (all_kept t.connections);
     }

@@ -11,5 +11,5 @@ returns-then-part-at c = record { fits = sym (lt-leb _ _ (omega (arith, length-a
 pub returns : goal.returns
 returns c = record {
   fits = sym (le-leb _ _ (omega (arith, length-append (held c.args.self.now) c.args.part.now)));
-  after = appended c.args.self.now.bytes c.copy-from-slice.new.self c.args.part.now c.args.self.now.len c.len-at.result _ c.len-at.ensures.count c.copy-from-slice.ensures.after;
+  after = appended c.args.self.now.bytes c.copy_from_slice.new.self c.args.part.now c.args.self.now.len c.len-at.result _ c.len-at.ensures.count c.copy_from_slice.ensures.after;
 }

@@ -3,4 +3,4 @@ use Rattle.buffer.proofs.Filled.{front}
 use Rattle.buffer.proofs.Buffer.from_slice.Goals as goal
 
 pub returns : goal.returns
-returns c = front _ _ c.args.part.now _ c.copy-from-slice.ensures.after refl
+returns c = front _ _ c.args.part.now _ c.copy_from_slice.ensures.after refl

@@ -20,27 +20,27 @@ returns-in-Err c =
       answers = all_kept c.args.core.now.tables.connections;
     }
 
-pub returns-then-is-some : goal.returns-then-is-some
-returns-then-is-some c =
+pub returns-then-is_some : goal.returns-then-is_some
+returns-then-is_some c =
     let d = core_as false c.args.core.now in
     let k = says c.in-Ok.key in
     let ks = keys_of c.args.core.now.tables.keys in
     let by : List ℕ → Bool = λ r. is_some (found (has_ref r) ks) in
     let h : by k.ref ≡ true =
     ap by (sym c.reference.ensures.value) ∙ sym (found_some (at_of key_of) c.key_named.result (found (has_ref c.reference.result.now) ks) c.key_named.ensures.found)
-    ∙ sym c.is-some.ensures ∙ c.if-is-some.true in
+    ∙ sym c.is_some.ensures ∙ c.if-is_some.true in
     record { said = held_already d k (loading c.args.text.now) c.in-Ok.ensures.meaning h; answers = all_kept c.args.core.now.tables.connections }
 
-pub returns-in-default : goal.returns-in-default
-returns-in-default c =
+pub returns-in_default : goal.returns-in_default
+returns-in_default c =
     let d = core_as false c.args.core.now in
     let k = says c.in-Ok.key in
     let ks = keys_of c.args.core.now.tables.keys in
     let by : List ℕ → Bool = λ r. is_some (found (has_ref r) ks) in
     let h : by k.ref ≡ false =
     ap by (sym c.reference.ensures.value) ∙ sym (found_some (at_of key_of) c.key_named.result (found (has_ref c.reference.result.now) ks) c.key_named.ensures.found)
-    ∙ sym c.is-some.ensures ∙ c.if-is-some.false in
+    ∙ sym c.is_some.ensures ∙ c.if-is_some.false in
     record {
-      said = no_row d k (loading c.args.text.now) c.in-Ok.ensures.meaning h (all_full (full ks) (free ks) c.in-default.ensures.free);
+      said = no_row d k (loading c.args.text.now) c.in-Ok.ensures.meaning h (all_full (full ks) (free ks) c.in_default.ensures.free);
       answers = all_kept c.args.core.now.tables.connections;
     }

@@ -5,21 +5,21 @@ use Rattle.cipher.proofs.cbc.chain.Goals as goal
 pub loop-i-init : goal.loop-i-init
 loop-i-init g c = start _ _ _ _ _ g.met.C.BlockCipher.sizes c.requires.0 c.requires.1
 
-pub slice-bounds-before-end : goal.slice-bounds-before-end
-slice-bounds-before-end g c =
+pub slice_bounds-before-end : goal.slice_bounds-before-end
+slice_bounds-before-end g c =
     let s : g.C.BlockCipher.size ≤ 16 = at_most _ g.met.C.BlockCipher.sizes in
-    omega (arith, c.loop-i.invariant.long, c.block-len-n.ensures, s)
+    omega (arith, c.loop-i.invariant.long, c.block_len-n.ensures, s)
 
-pub slice-bounds-link-end : goal.slice-bounds-link-end
-slice-bounds-link-end g c =
+pub slice_bounds-link-end : goal.slice_bounds-link-end
+slice_bounds-link-end g c =
     let r = room _ _ _ _ _ _ _ c.loop-i.invariant c.loop-i-test.true in
-    omega (arith, r, c.block-len-n.ensures)
+    omega (arith, r, c.block_len-n.ensures)
 
 pub loop-i-preserved : goal.loop-i-preserved
 loop-i-preserved g c =
     let n : ℕ = g.C.BlockCipher.size in
-    let r : ℕ = c.block-len-n.result in
-    let e : r ≡ n = c.block-len-n.ensures in
+    let r : ℕ = c.block_len-n.result in
+    let e : r ≡ n = c.block_len-n.ensures in
     let i : ℕ = c.loop-i.i in
     let small : n ≤ 16 = at_most n g.met.C.BlockCipher.sizes in
     let fits : i + n ≤ length c.loop-i.buf = room _ _ _ _ _ _ _ c.loop-i.invariant c.loop-i-test.true in

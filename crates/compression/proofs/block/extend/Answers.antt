@@ -10,7 +10,7 @@ loop-n-init c = extended_none _
 pub loop-n-preserved : goal.loop-n-preserved
 loop-n-preserved c =
     let n = c.loop-n.n in
-    extended_more c.loop-n.w (take 16 c.args.w.now) n (n + 16) (n + 1 + 16) c.next-word.result refl refl (omega arith) c.next-word.ensures c.loop-n.invariant
+    extended_more c.loop-n.w (take 16 c.args.w.now) n (n + 16) (n + 1 + 16) c.next_word.result refl refl (omega arith) c.next_word.ensures c.loop-n.invariant
 
 pub returns : goal.returns
 returns c =

@@ -7,7 +7,7 @@ pub loop-t-init : goal.loop-t-init
 loop-t-init c = words_none c.args.w.now c.args.block.now
 
 pub loop-t-preserved : goal.loop-t-preserved
-loop-t-preserved c = words_more c.loop-t.w c.args.block.now c.loop-t.t c.word-at.result (omega arith) c.word-at.ensures c.loop-t.invariant
+loop-t-preserved c = words_more c.loop-t.w c.args.block.now c.loop-t.t c.word_at.result (omega arith) c.word_at.ensures c.loop-t.invariant
 
 pub returns : goal.returns
 returns c =

@@ -4,4 +4,4 @@ use Rattle.compression.proofs.block.round.Goals as goal
 
 pub returns : goal.returns
 unfolding round_of
-returns c = cc (c.first-of-first.ensures, c.second-of-second.ensures)
+returns c = cc (c.first_of-first.ensures, c.second_of-second.ensures)

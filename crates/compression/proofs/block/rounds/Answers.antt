@@ -10,7 +10,7 @@ pub loop-i-preserved : goal.loop-i-preserved
 loop-i-preserved c =
     let i = c.loop-i.i in
     let e : 8 * i + 8 ≡ 8 * (i + 1) = omega arith in
-    c.eight-rounds-x.ensures c.args.v c.loop-i.invariant ∙ ap (λ n. rounds n c.args.w.now c.args.v) e
+    c.eight_rounds-x.ensures c.args.v c.loop-i.invariant ∙ ap (λ n. rounds n c.args.w.now c.args.v) e
 
 pub returns : goal.returns
 returns c =

@@ -8,7 +8,7 @@ pub loop-byte-preserved : goal.loop-byte-preserved
 unfolding remainder
 loop-byte-preserved c =
     ap (λ x. remainder x (drop (c.loop-byte.byte-index + 1) c.args.message.now))
-    (c.divide-byte-state.ensures ∙ ap (λ b. bits 8 (bit_xor c.loop-byte.state b)) c.from.ensures)
+    (c.divide_byte-state.ensures ∙ ap (λ b. bits 8 (bit_xor c.loop-byte.state b)) c.from.ensures)
     ∙ sym (at_drop_more (remainder c.loop-byte.state) c.args.message.now c.loop-byte.byte-index 0 c.loop-byte-test.true)
     ∙ c.loop-byte.invariant
 

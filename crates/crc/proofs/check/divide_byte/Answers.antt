@@ -4,4 +4,4 @@ use Rattle.crc.proofs.Division.{eight_bits}
 use Rattle.crc.proofs.check.divide_byte.Goals as goal
 
 pub returns : goal.returns
-returns c = ap (λ r. bit_xor r (c.args.state / 256)) c.byte-remainder.ensures ∙ eight_bits c.args.state
+returns c = ap (λ r. bit_xor r (c.args.state / 256)) c.byte_remainder.ensures ∙ eight_bits c.args.state

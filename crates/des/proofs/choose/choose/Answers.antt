@@ -26,8 +26,8 @@ returns c =
       fits = subst P n c.loop-p.invariant.0;
     }
 
-pub overflow-sub-bit : goal.overflow-sub-bit
-overflow-sub-bit c = (place_at c.args.width c.args.places.now c.requires.table c.loop-p.p-index c.loop-p-test.true).1
+pub overflow_sub-bit : goal.overflow_sub-bit
+overflow_sub-bit c = (place_at c.args.width c.args.places.now c.requires.table c.loop-p.p-index c.loop-p-test.true).1
 
-pub overflow-shr-bit : goal.overflow-shr-bit
-overflow-shr-bit c = omega (arith, place_at c.args.width c.args.places.now c.requires.table c.loop-p.p-index c.loop-p-test.true)
+pub overflow_shr-bit : goal.overflow_shr-bit
+overflow_shr-bit c = omega (arith, place_at c.args.width c.args.places.now c.requires.table c.loop-p.p-index c.loop-p-test.true)

@@ -5,5 +5,5 @@ use Rattle.des.proofs.octets.read.Goals as goal
 
 pub returns : goal.returns
 returns c =
-    let e : c.from-be-bytes.result ≡ number (eight c.args.block.now) = omega (arith, c.from-be-bytes.ensures) in
+    let e : c.from_be_bytes.result ≡ number (eight c.args.block.now) = omega (arith, c.from_be_bytes.ensures) in
     e ∙ ap number (eight_is c.args.block.now c.requires)

@@ -11,5 +11,5 @@ unfolding ciphered
 returns c =
     let ks = ordered c.args.order (map (bits 48) c.args.keys.now) in
     c.write.ensures
-    ∙ ap (octets 8) (sym (value_bits 64 c.through-word.result c.through-word.type-inv))
+    ∙ ap (octets 8) (sym (value_bits 64 c.through-word.result c.through-word.type_inv))
     ∙ ap (λ xs. octets 8 (value xs)) (c.through-word.ensures ∙ ap (λ x. crypt ks (bits 64 x)) c.read.ensures)

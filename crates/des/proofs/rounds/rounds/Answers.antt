@@ -18,12 +18,12 @@ loop-i-preserved c =
     let b = c.loop-i.block in
     let n : length ks ≡ 16 = search rules in
     let h : i < length (ordered o (map (bits 48) ks)) = omega (arith, length_ordered o ks) in
-    let e = ordered_at o ks i n c.loop-i-test.true ∙ sym (ap (bits 48) c.round-key-key.ensures) in
-    let x = xor_lt 32 b.left c.mix.result c.loop-i.invariant.0 c.mix.type-inv in
+    let e = ordered_at o ks i n c.loop-i-test.true ∙ sym (ap (bits 48) c.round_key-key.ensures) in
+    let x = xor_lt 32 b.left c.mix.result c.loop-i.invariant.0 c.mix.type_inv in
     let t = c.turned-block.ensures in (
       omega (arith, t.left),
       omega (arith, t.right),
-      rounds_more (ordered o (map (bits 48) ks)) i b.left b.right _ _ c.mix.result c.round-key-key.result _ t.left t.right h e c.mix.ensures c.loop-i.invariant.2,
+      rounds_more (ordered o (map (bits 48) ks)) i b.left b.right _ _ c.mix.result c.round_key-key.result _ t.left t.right h e c.mix.ensures c.loop-i.invariant.2,
     )
 
 pub returns : goal.returns

@@ -12,4 +12,4 @@ unfolding crypt
 returns c =
     let ks = ordered c.args.order (map (bits 48) c.args.keys.now) in
     let start = ap (bits 64) c.initial.ensures ∙ initial_is c.args.block c.ranges.block.fits in
-    ap (bits 64) c.last.ensures ∙ final_is c.rounds.result c.rounds.type-inv ∙ ap (chosen fp) (c.rounds.ensures ∙ ap (λ xs. crossed (turns mixed ks (halves xs))) start)
+    ap (bits 64) c.last.ensures ∙ final_is c.rounds.result c.rounds.type_inv ∙ ap (chosen fp) (c.rounds.ensures ∙ ap (λ xs. crossed (turns mixed ks (halves xs))) start)

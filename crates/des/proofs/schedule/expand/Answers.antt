@@ -4,8 +4,8 @@ use Rattle.des.proofs.schedule.expand.Goals as goal
 
 pub loop-i-init : goal.loop-i-init
 loop-i-init c =
-    let h = c.first-choice-halves.ensures in
-    (omega (arith, h.fits), omega arith, keys_none c.args.key c.first-choice-halves.result h.is)
+    let h = c.first_choice-halves.ensures in
+    (omega (arith, h.fits), omega arith, keys_none c.args.key c.first_choice-halves.result h.is)
 
 pub loop-i-preserved : goal.loop-i-preserved
 loop-i-preserved c =
@@ -15,8 +15,8 @@ loop-i-preserved c =
     let f = c.shift-d.ensures in (
       e.narrow,
       f.narrow,
-      keys_more c.loop-i.keys i c.shift-of-by.result c.loop-i.c c.loop-i.d c.shift-c.result c.shift-d.result c.second-choice.result c.joined.result _ l c.loop-i-test.true c.shift-of-by.ensures.is e.is f.is f.narrow
-          c.joined.ensures c.second-choice.ensures c.loop-i.invariant.2,
+      keys_more c.loop-i.keys i c.shift_of-by.result c.loop-i.c c.loop-i.d c.shift-c.result c.shift-d.result c.second_choice.result c.joined.result _ l c.loop-i-test.true c.shift_of-by.ensures.is e.is f.is f.narrow
+          c.joined.ensures c.second_choice.ensures c.loop-i.invariant.2,
     )
 
 pub returns : goal.returns

@@ -18,4 +18,4 @@ digits a b c d = omega arith
 pub returns : goal.returns
 returns c =
     let xs = c.args.bytes.now in
-    c.from-be-bytes.ensures ∙ sym (ap number (spelt xs c.requires) ∙ digits (get_or xs 0 0) (get_or xs 1 0) (get_or xs 2 0) (get_or xs 3 0))
+    c.from_be_bytes.ensures ∙ sym (ap number (spelt xs c.requires) ∙ digits (get_or xs 0 0) (get_or xs 1 0) (get_or xs 2 0) (get_or xs 3 0))

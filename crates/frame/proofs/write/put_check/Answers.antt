@@ -2,23 +2,23 @@ use Rattle.std.proofs.Common.{◌≡◌, ℕ, ◌+◌, ◌-◌, ◌≤◌, List,
 use Rattle.std.proofs.lemmas.List.{take_at}
 use Rattle.frame.proofs.write.put_check.Goals as goal
 
-pub slice-bounds-put-end : goal.slice-bounds-put-end
-slice-bounds-put-end g c =
+pub slice_bounds-put-end : goal.slice_bounds-put-end
+slice_bounds-put-end g c =
     let s : g.I.Integrity.size ≤ 16 = g.met.I.Integrity.bounded.1 in
     simp (length-append, length-drop) (omega arith)
 
 pub returns : goal.returns
 returns g c =
     let n : ℕ = g.I.Integrity.size in
-    let tag : ℕ = c.tag-len-tag.result in
+    let tag : ℕ = c.tag_len-tag.result in
     let b : List ℕ = c.args.out.now in
     let end : ℕ = c.args.end in
-    let value : List ℕ = c.write-check.new.out in
-    let e : tag ≡ n = c.tag-len-tag.ensures in
-    let long : length value ≡ tag - 0 = omega (arith, c.write-check.auto.out) in
+    let value : List ℕ = c.write_check.new.out in
+    let e : tag ≡ n = c.tag_len-tag.ensures in
+    let long : length value ≡ tag - 0 = omega (arith, c.write_check.auto.out) in
     let from : end - 0 ≡ end = omega arith in
     let is : value ≡ g.I.Integrity.check c.args.mechanism.now (take end b) =
-    c.write-check.ensures ∙ ap (λ j. g.I.Integrity.check c.args.mechanism.now (take j b)) from in
+    c.write_check.ensures ∙ ap (λ j. g.I.Integrity.check c.args.mechanism.now (take j b)) from in
     let size : end + length value ≡ end + n = omega arith in
     record {
       end = omega arith;

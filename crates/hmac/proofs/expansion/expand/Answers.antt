@@ -12,11 +12,11 @@ returns c =
     let key = c.args.key.now in
     let seed = c.args.first.now ++ c.args.second.now in
     let keyed = c.new-code.ensures in
-    let one = c.copy-from-slice.new.self in
-    let two = c.copy-from-slice-2.new.self in
-    let is_one : one ≡ turn 1 key seed = c.copy-from-slice.ensures.after ∙ c.first-string.ensures key keyed in
+    let one = c.copy_from_slice.new.self in
+    let two = c.copy_from_slice-2.new.self in
+    let is_one : one ≡ turn 1 key seed = c.copy_from_slice.ensures.after ∙ c.first_string.ensures key keyed in
     let long : length one ≡ 32 = ap length is_one ∙ length_hmac key (seed ++ 1 ∷ []) in
     let front = take_at one (post_of 0 32 c.args.area.now) 32 long in
     let is-two : two ≡ turn 2 key seed =
-    c.copy-from-slice-2.ensures.after ∙ c.second-string-next.ensures key keyed ∙ ap (λ b. hmac key (b ++ (seed ++ 2 ∷ []))) (front ∙ is_one) in
+    c.copy_from_slice-2.ensures.after ∙ c.second_string-next.ensures key keyed ∙ ap (λ b. hmac key (b ++ (seed ++ 2 ∷ []))) (front ∙ is_one) in
     halves one two c.args.area.now long c.requires ∙ ap (λ y. y ++ two) is_one ∙ ap (λ y. turn 1 key seed ++ y) is-two

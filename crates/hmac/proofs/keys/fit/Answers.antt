@@ -4,14 +4,14 @@ use Rattle.sha256.specs.Digest.{digest}
 use Rattle.hmac.specs.Hmac.{filled, block_key}
 use Rattle.hmac.proofs.keys.fit.Goals as goal
 
-pub returns-then-is-long : goal.returns-then-is-long
+pub returns-then-is_long : goal.returns-then-is_long
 unfolding block_key
-returns-then-is-long c =
+returns-then-is_long c =
     let key = c.args.key.now in
-    c.put.ensures ∙ ap filled (c.digest-of.ensures ∙ sym (cond-true (ltb 64 (length key)) (digest key) key (sym c.is-long.ensures ∙ c.if-is-long.true)))
+    c.put.ensures ∙ ap filled (c.digest_of.ensures ∙ sym (cond-true (ltb 64 (length key)) (digest key) key (sym c.is_long.ensures ∙ c.if-is_long.true)))
 
-pub returns-else-is-long : goal.returns-else-is-long
+pub returns-else-is_long : goal.returns-else-is_long
 unfolding block_key
-returns-else-is-long c =
+returns-else-is_long c =
     let key = c.args.key.now in
-    c.put-else-is-long.ensures ∙ ap filled (sym (cond-false (ltb 64 (length key)) (digest key) key (sym c.is-long.ensures ∙ c.if-is-long.false)))
+    c.put-else-is_long.ensures ∙ ap filled (sym (cond-false (ltb 64 (length key)) (digest key) key (sym c.is_long.ensures ∙ c.if-is_long.false)))

@@ -3,9 +3,9 @@ use Rattle.numerals.specs.Decimal.{digits}
 use Rattle.numerals.proofs.Digits.{stops_at, goes_on, upto_le, all_read}
 use Rattle.numerals.proofs.decimal.read_digits.Goals as goal
 
-pub returns-in-default : goal.returns-in-default
-returns-in-default c =
-    record { value = sym (stops_at c.args.top c.loop-c.value c.args.text.now c.loop-c.c-index (omega arith) c.in-default.ensures) ∙ c.loop-c.invariant.0; within = tt }
+pub returns-in_default : goal.returns-in_default
+returns-in_default c =
+    record { value = sym (stops_at c.args.top c.loop-c.value c.args.text.now c.loop-c.c-index (omega arith) c.in_default.ensures) ∙ c.loop-c.invariant.0; within = tt }
 
 pub loop-c-preserved : goal.loop-c-preserved
 loop-c-preserved c =

@@ -7,12 +7,12 @@ pub loop-call-preserved : goal.loop-call-preserved
 loop-call-preserved g c =
     let 𝓐 = g.A.Application in
     let ds = vec_items c.loop-call.dones in
-    let d = c.in-ok-next.done in
+    let d = c.in_ok-next.done in
     let pushed : vec_items c.push.new.self ≡ ds ++ (d ∷ []) = search rules in
     rw pushed
     (goes_on g.S.Sealer.seals 𝓐.acts c.args.fill (state_of 𝓐.contents c.args.card) c.args.calls.now c.loop-call.call-index ds
-    (state_of 𝓐.contents c.loop-call.card) (state_of 𝓐.contents c.in-ok-next.next) _ d
-    c.loop-call-test.true c.in-ok-next.ensures.said c.in-ok-next.ensures.memory c.loop-call.invariant)
+    (state_of 𝓐.contents c.loop-call.card) (state_of 𝓐.contents c.in_ok-next.next) _ d
+    c.loop-call-test.true c.in_ok-next.ensures.said c.in_ok-next.ensures.memory c.loop-call.invariant)
 
 pub returns : goal.returns
 returns g c =

@@ -12,13 +12,13 @@ returns g c =
     let after = c.command-result.new.work in
     let filled : lent ≡ replicate call.buffer fill = search rules in
     let cleared : work ≡ replicate call.work fill = search rules in
-    let buffer-length : length written ≡ c.in-ok-buffer.buffer.len = search rules in
-    let work-length : length after ≡ c.in-ok-work.work.len = search rules in
-    let same = holds_written c.in-ok-buffer.buffer.len written c.in-ok-buffer.buffer.items buffer-length in
-    let same_area = holds_written c.in-ok-work.work.len after c.in-ok-work.work.items work-length in
+    let buffer-length : length written ≡ c.in_ok-buffer.buffer.len = search rules in
+    let work-length : length after ≡ c.in_ok-work.work.len = search rules in
+    let same = holds_written c.in_ok-buffer.buffer.len written c.in_ok-buffer.buffer.items buffer-length in
+    let same_area = holds_written c.in_ok-work.work.len after c.in_ok-work.work.items work-length in
     record {
-      said = says _ _ c.command-result.result c.command-answer-answer.result written _ c.command-answer-answer.ensures same
+      said = says _ _ c.command-result.result c.command_answer-answer.result written _ c.command_answer-answer.ensures same
           (rw (long lent call.buffer fill filled, long work call.work fill cleared) at c.command-result.ensures.said);
-      memory = lends fill call.buffer call.work c.command-result.result c.command-answer-answer.result lent written _ work after _
-          c.command-answer-answer.ensures same same_area filled cleared c.command-result.ensures.memory;
+      memory = lends fill call.buffer call.work c.command-result.result c.command_answer-answer.result lent written _ work after _
+          c.command_answer-answer.ensures same same_area filled cleared c.command-result.ensures.memory;
     }

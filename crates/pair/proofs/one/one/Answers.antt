@@ -3,5 +3,5 @@ use Rattle.pair.proofs.one.one.Goals as goal
 
 pub returns-in-Off : goal.returns-in-Off
 returns-in-Off g c =
-    let m = c.call-off.ensures.memory c.args.fill in
+    let m = c.call_off.ensures.memory c.args.fill in
     search rules

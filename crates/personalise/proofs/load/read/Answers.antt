@@ -6,42 +6,42 @@ use Rattle.personalise.specs.Says.{answered, ref_of}
 use Rattle.personalise.proofs.Loads.{judged, told, unended}
 use Rattle.personalise.proofs.Law.{law_of_loads, made_written}
 use Rattle.personalise.proofs.load.read.Goals as goal
-use Rattle.personalise.proofs.load.read.Goals.{After-is-done}
+use Rattle.personalise.proofs.load.read.Goals.{After-is_done}
 
 -- What the line functions gave, one behind the other, is what the text means.
-in_all : (c : After-is-done)
-    → judged c.is-done.result (option_map ref_of c.reference-line-reference.result) c.key-line-key.result c.weak-line-weak.result
-    c.masters-line-masters.result c.connections-line-connections.result c.transactions-line-transactions.result
+in_all : (c : After-is_done)
+    → judged c.is_done.result (option_map ref_of c.reference_line-reference.result) c.key_line-key.result c.weak_line-weak.result
+    c.masters_line-masters.result c.connections_line-connections.result c.transactions_line-transactions.result
     ≡ loading c.args.text.now
 in_all c =
     told c.args.text.now
     (left c.new-lines.result)
-    (left c.reference-line-reference.new.lines)
-    (left c.key-line-key.new.lines)
-    (left c.weak-line-weak.new.lines)
-    (left c.masters-line-masters.new.lines)
-    (left c.connections-line-connections.new.lines)
-    (left c.transactions-line-transactions.new.lines)
-    c.is-done.result (option_map ref_of c.reference-line-reference.result) c.key-line-key.result c.weak-line-weak.result
-    c.masters-line-masters.result c.connections-line-connections.result c.transactions-line-transactions.result
-    c.if-not-is-ended.ensures c.new-lines.ensures
-    c.reference-line-reference.ensures.past c.key-line-key.ensures.past c.weak-line-weak.ensures.past
-    c.masters-line-masters.ensures.past c.connections-line-connections.ensures.past c.transactions-line-transactions.ensures.past
-    c.is-done.ensures
-    c.reference-line-reference.ensures.value c.key-line-key.ensures.value c.weak-line-weak.ensures.value
-    c.masters-line-masters.ensures.value c.connections-line-connections.ensures.value c.transactions-line-transactions.ensures.value
+    (left c.reference_line-reference.new.lines)
+    (left c.key_line-key.new.lines)
+    (left c.weak_line-weak.new.lines)
+    (left c.masters_line-masters.new.lines)
+    (left c.connections_line-connections.new.lines)
+    (left c.transactions_line-transactions.new.lines)
+    c.is_done.result (option_map ref_of c.reference_line-reference.result) c.key_line-key.result c.weak_line-weak.result
+    c.masters_line-masters.result c.connections_line-connections.result c.transactions_line-transactions.result
+    c.if-not-is_ended.ensures c.new-lines.ensures
+    c.reference_line-reference.ensures.past c.key_line-key.ensures.past c.weak_line-weak.ensures.past
+    c.masters_line-masters.ensures.past c.connections_line-connections.ensures.past c.transactions_line-transactions.ensures.past
+    c.is_done.ensures
+    c.reference_line-reference.ensures.value c.key_line-key.ensures.value c.weak_line-weak.ensures.value
+    c.masters_line-masters.ensures.value c.connections_line-connections.ensures.value c.transactions_line-transactions.ensures.value
 
-pub returns-then-not-is-ended : goal.returns-then-not-is-ended
-returns-then-not-is-ended c = record { meaning = unended c.args.text.now c.if-not-is-ended.ensures; written = tt; law = law_of_loads }
+pub returns-then-not-is_ended : goal.returns-then-not-is_ended
+returns-then-not-is_ended c = record { meaning = unended c.args.text.now c.if-not-is_ended.ensures; written = tt; law = law_of_loads }
 
-pub returns-then-not-is-done : goal.returns-then-not-is-done
-returns-then-not-is-done c =
-    let all = in_all (goal.at.returns-then-not-is-done c).After-is-done in
-    record { meaning = simp c.if-not-is-done.true at all; written = tt; law = law_of_loads }
+pub returns-then-not-is_done : goal.returns-then-not-is_done
+returns-then-not-is_done c =
+    let all = in_all (goal.at.returns-then-not-is_done c).After-is_done in
+    record { meaning = simp c.if-not-is_done.true at all; written = tt; law = law_of_loads }
 
 pub returns : goal.returns
 returns c =
     let text = c.args.text.now in
-    let all = in_all (goal.at.returns c).After-is-done in
-    let meaning : answered c.keyed.result ≡ loading text = c.keyed.ensures ∙ (simp c.if-not-is-done.false at all) in
+    let all = in_all (goal.at.returns c).After-is_done in
+    let meaning : answered c.keyed.result ≡ loading text = c.keyed.ensures ∙ (simp c.if-not-is_done.false at all) in
     record { meaning = meaning; written = made_written c.keyed.result text meaning; law = law_of_loads }

@@ -16,17 +16,17 @@ returns-then-string-gt288 c =
     let a = shut (real.opened c.args.suite k z) c.args.out.now c.number.result c.number.ensures (longer_shut real real_faithful c.args.suite k keys z (omega arith)) in
     record { answer = a.is; buffer = a.holds; told = a.tells }
 
-pub returns-in-default : goal.returns-in-default
-returns-in-default c =
+pub returns-in_default : goal.returns-in_default
+returns-in_default c =
     let k : List ℕ = c.args.keys.now in
     let z : List ℕ = c.args.string.now in
-    let o = copied real c.args.suite k z _ c.put.new.buffer c.open.new.buffer c.open.result None c.put.ensures c.in-default.is c.open.ensures in
+    let o = copied real c.args.suite k z _ c.put.new.buffer c.open.new.buffer c.open.result None c.put.ensures c.in_default.is c.open.ensures in
     let none = refused (real.opened c.args.suite k z) (length z) c.put.new.buffer c.open.new.buffer o in
-    let a = shut (real.opened c.args.suite k z) c.args.out.now c.number-in-default.result c.number-in-default.ensures none in
+    let a = shut (real.opened c.args.suite k z) c.args.out.now c.number-in_default.result c.number-in_default.ensures none in
     record { answer = a.is; buffer = a.holds; told = a.tells }
 
-pub put-plain-requires : goal.put-plain-requires
-put-plain-requires c =
+pub put_plain-requires : goal.put_plain-requires
+put_plain-requires c =
     let k : List ℕ = c.args.keys.now in
     let z : List ℕ = c.args.string.now in
     let keys : Block 40 k = (search rules, bytes_of k (λ i. search rules)) in
@@ -43,6 +43,6 @@ returns c =
     let o = copied real c.args.suite k z _ c.put.new.buffer c.open.new.buffer c.open.result (Some r) c.put.ensures c.in-Some.is c.open.ensures in
     let size : r.at + r.len - r.at ≡ r.len = omega arith in
     let a = handed (real.opened c.args.suite k z) (length z) c.put.new.buffer c.open.new.buffer r
-    (take (r.at + r.len - r.at) (drop r.at c.open.new.buffer)) c.args.out.now c.put-plain.new.out c.put-plain.result o
-    (ap (λ j. take j (drop r.at c.open.new.buffer)) size) c.put-plain.ensures.len c.put-plain.ensures.bytes in
+    (take (r.at + r.len - r.at) (drop r.at c.open.new.buffer)) c.args.out.now c.put_plain.new.out c.put_plain.result o
+    (ap (λ j. take j (drop r.at c.open.new.buffer)) size) c.put_plain.ensures.len c.put_plain.ensures.bytes in
     record { answer = a.is; buffer = a.holds; told = a.tells }

@@ -11,8 +11,8 @@ loop-i-preserved c =
     let i = c.loop-i.i in
     let ws = c.args.words.now in
     let at : i < length ws = c.loop-i-test.true in
-    let four = c.copy-from-slice.ensures.after ∙ c.to-be-bytes.ensures ∙ sym (octets_four (get_or ws i 0)) in
-    let put = c.copy-from-slice.new.self in
+    let four = c.copy_from_slice.ensures.after ∙ c.to_be_bytes.ensures ∙ sym (octets_four (get_or ws i 0)) in
+    let put = c.copy_from_slice.new.self in
     let long : length put ≡ 4 = ap length four ∙ length_octets 4 (get_or ws i 0) in
     take-put_mid (4 * i) (4 * i + 4 - 4 * i) c.loop-i.out put (4 * (i + 1)) (omega arith) (omega arith)
     ∙ ap (λ xs. xs ++ put) c.loop-i.invariant

@@ -6,4 +6,4 @@ use Rattle.sha256.proofs.pad.bits.Goals as goal
 
 pub returns : goal.returns
 returns c =
-    c.to-be-bytes.ensures ∙ sym (octets_eight c.bit-count.result) ∙ ap (octets 8) c.bit-count.ensures ∙ octets_mod (8 * c.args.count)
+    c.to_be_bytes.ensures ∙ sym (octets_eight c.bit_count.result) ∙ ap (octets 8) c.bit_count.ensures ∙ octets_mod (8 * c.args.count)

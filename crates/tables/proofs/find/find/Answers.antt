@@ -3,8 +3,8 @@ use Rattle.std.proofs.lemmas.List.{get_or_default}
 use Rattle.tables.proofs.Found.{seen_none, seen_first}
 use Rattle.tables.proofs.find.find.Goals as goal
 
-pub returns-then-is-called : goal.returns-then-is-called
-returns-then-is-called g c =
+pub returns-then-is_called : goal.returns-then-is_called
+returns-then-is_called g c =
     let rows = c.args.rows.now in
     let at : get_or rows c.loop-i.i None ≡ Some c.in-Some.item = get_or_default rows c.loop-i.i None c.index-rows-i.result (search rules) ∙ search rules in
     record {

@@ -3,8 +3,8 @@ use Rattle.std.proofs.lemmas.List.{get_or_default}
 use Rattle.tables.proofs.Smallest.{free_of, none_of}
 use Rattle.tables.proofs.free.first_free.Goals as goal
 
-pub returns-then-is-none : goal.returns-then-is-none
-returns-then-is-none g c =
+pub returns-then-is_none : goal.returns-then-is_none
+returns-then-is_none g c =
     let rows = c.args.rows.now in
     let read : get_or rows c.loop-i.i None ≡ c.index-rows-i.result = get_or_default rows c.loop-i.i None c.index-rows-i.result (search rules) ∙ search rules in
     let none : is_some (get_or rows c.loop-i.i None) ≡ false = ap (λ (o : Option _). is_some o) read ∙ search rules in

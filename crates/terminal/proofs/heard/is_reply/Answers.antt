@@ -3,8 +3,8 @@ use Rattle.std.proofs.lemmas.List.{length-append, take_at}
 use Rattle.replies.specs.Reply.{reply_object}
 use Rattle.terminal.proofs.heard.is_reply.Goals as goal
 
-pub slice-bounds-same-end : goal.slice-bounds-same-end
-slice-bounds-same-end c =
+pub slice_bounds-same-end : goal.slice_bounds-same-end
+slice_bounds-same-end c =
     let whole = reply_object c.args.reply in
     let long = ap length c.write-len.ensures.after ∙ length-append whole (drop c.write-len.result c.blank-written.result) in
     omega (arith, long, c.write-len.ensures.size)

@@ -9,15 +9,15 @@ use Rattle.terminal.proofs.heard.read_connection.Goals as goal
 pub returns-then-object-ne62 : goal.returns-then-object-ne62
 returns-then-object-ne62 c r h = c.if-object-ne62.true (connection_long c.args.object.now r h)
 
-pub returns-else-is-reply : goal.returns-else-is-reply
-returns-else-is-reply c r h =
+pub returns-else-is_reply : goal.returns-else-is_reply
+returns-else-is_reply c r h =
     let bs = c.args.object.now in
-    let id = sym (c.sixteen-at.ensures ∙ connection_id bs r h) in
-    let nonce = sym (c.sixteen-at-2.ensures ∙ connection_nonce bs r h) in
+    let id = sym (c.sixteen_at.ensures ∙ connection_id bs r h) in
+    let nonce = sym (c.sixteen_at-2.ensures ∙ connection_nonce bs r h) in
     let cipher = sym (connection_cipher bs r h) in
     let mechanism = sym (connection_mechanism bs r h) in
-    let mac = sym (c.sixteen-at-3.ensures ∙ connection_mac bs r h) in
-    let heard : ConnectionReply = record { id = c.sixteen-at.result; nonce = c.sixteen-at-2.result; cipher = get_or bs 40 0; mechanism = get_or bs 43 0; mac = c.sixteen-at-3.result } in
+    let mac = sym (c.sixteen_at-3.ensures ∙ connection_mac bs r h) in
+    let heard : ConnectionReply = record { id = c.sixteen_at.result; nonce = c.sixteen_at-2.result; cipher = get_or bs 40 0; mechanism = get_or bs 43 0; mac = c.sixteen_at-3.result } in
     let same : reply_object (Connection r) ≡ reply_object (Connection heard) =
     λ i. reply_object (Connection (record { id = id i; nonce = nonce i; cipher = cipher i; mechanism = mechanism i; mac = mac i })) in
-    false≢true (c.if-is-reply.ensures.1 (h.written ∙ same))
+    false≢true (c.if-is_reply.ensures.1 (h.written ∙ same))

@@ -8,7 +8,7 @@ use Rattle.terminal.proofs.heard.read_master.Goals as goal
 pub returns-then-object-ne23 : goal.returns-then-object-ne23
 returns-then-object-ne23 c m h = c.if-object-ne23.true (master_long c.args.object.now m h)
 
-pub returns-else-is-reply : goal.returns-else-is-reply
-returns-else-is-reply c m h =
-    let id = c.sixteen-at.ensures ∙ master_id c.args.object.now m h in
-    false≢true (c.if-is-reply.ensures.1 (h.written ∙ ap (λ i. reply_object (Master (record { id = i }))) (sym id)))
+pub returns-else-is_reply : goal.returns-else-is_reply
+returns-else-is_reply c m h =
+    let id = c.sixteen_at.ensures ∙ master_id c.args.object.now m h in
+    false≢true (c.if-is_reply.ensures.1 (h.written ∙ ap (λ i. reply_object (Master (record { id = i }))) (sym id)))

@@ -3,4 +3,4 @@ use Rattle.buffer.proofs.Filled.{front}
 use Rattle.transact.proofs.complete.fronted.Goals as goal
 
 pub returns : goal.returns
-returns c = front _ _ c.args.bytes.now _ c.copy-from-slice.ensures.after refl
+returns c = front _ _ c.args.bytes.now _ c.copy_from_slice.ensures.after refl

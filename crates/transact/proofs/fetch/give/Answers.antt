@@ -14,7 +14,7 @@ let_through n bare e p = never (sym e)
 let_through n (alone d) e p = never (sym e)
 let_through n (both d m) e p = never (sym e)
 
-pub put-reply-requires : goal.put-reply-requires
-put-reply-requires c =
-    let h = let_through (length c.in-Some.block.bytes.now) (shape_of c.args.body) (sym c.if-not-is-enough.ensures) c.requires.proper in
+pub put_reply-requires : goal.put_reply-requires
+put_reply-requires c =
+    let h = let_through (length c.in-Some.block.bytes.now) (shape_of c.args.body) (sym c.if-not-is_enough.ensures) c.requires.proper in
     omega (arith, h)

@@ -28,21 +28,21 @@ pub returns : goal.returns
 returns g c =
     let d = c.args.self.now.core in
     let st = on_state g.A.Application.contents c.args.self.now in
-    let a = c.answer-guarded.ensures.said in
+    let a = c.answer_guarded.ensures.said in
     let lent = c.args.reply.now in
-    let written = c.answer-guarded.new.reply in
+    let written = c.answer_guarded.new.reply in
     record {
       said =
           ap (carries g.S.Sealer.seals g.A.Application.acts st)
           (host_taken keyed g.S.Sealer.seals (core_of d) c.args.apdu.now c.args.random.now (ltb (length c.args.reply.now) 258 || ltb (length c.args.work.now) 64)
-          (not (eqb (length c.args.random.now) 32)) c.in-default.ensures.refusal)
+          (not (eqb (length c.args.random.now) 32)) c.in_default.ensures.refusal)
           ∙ a.is
-          ∙ ap (λ (r : List ℕ). outcome (on_state g.A.Application.contents c.answer-guarded.new.self) (replied r)) (sym (front a.reply lent written c.answer-guarded.result a.len a.bytes));
+          ∙ ap (λ (r : List ℕ). outcome (on_state g.A.Application.contents c.answer_guarded.new.self) (replied r)) (sym (front a.reply lent written c.answer_guarded.result a.len a.bytes));
       memory = record {
-        inside = inside a.reply lent written c.answer-guarded.result a.len a.bytes c.answer-guarded.auto.reply;
-        behind = behind a.reply lent written c.answer-guarded.result a.len a.bytes;
-        size = c.answer-guarded.auto.reply;
-        wiped = c.answer-guarded.ensures.wiped;
+        inside = inside a.reply lent written c.answer_guarded.result a.len a.bytes c.answer_guarded.auto.reply;
+        behind = behind a.reply lent written c.answer_guarded.result a.len a.bytes;
+        size = c.answer_guarded.auto.reply;
+        wiped = c.answer_guarded.ensures.wiped;
       };
-      refused = c.in-default.ensures.refusal;
+      refused = c.in_default.ensures.refusal;
     }

@@ -7,6 +7,6 @@ pub returns : goal.returns
 returns g c = record {
   reply = reply [] c.args.status;
   is = unchanged g.S.Sealer.seals g.A.Application.acts c.args.self.now.core (g.A.Application.contents c.args.self.now.application) c.args.status;
-  len = c.put-status.ensures.len;
-  bytes = c.put-status.ensures.written;
+  len = c.put_status.ensures.len;
+  bytes = c.put_status.ensures.written;
 }

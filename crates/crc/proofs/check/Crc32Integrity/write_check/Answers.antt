@@ -7,7 +7,7 @@ use Rattle.crc.proofs.check.Crc32Integrity.write_check.Goals as goal
 pub returns : goal.returns
 unfolding crc
 returns c =
-    c.copy-from-slice.ensures.after
-    ∙ c.highest-first.ensures
-    ∙ sym (octets_four c.divide-and-invert.result)
-    ∙ ap (octets 4) c.divide-and-invert.ensures
+    c.copy_from_slice.ensures.after
+    ∙ c.highest_first.ensures
+    ∙ sym (octets_four c.divide_and_invert.result)
+    ∙ ap (octets 4) c.divide_and_invert.ensures

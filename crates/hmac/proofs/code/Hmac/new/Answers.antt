@@ -9,8 +9,8 @@ pub returns : goal.returns
 unfolding inner_key outer_key
 returns c =
     let key = c.args.key.now in
-    let block = c.block-key-of-block.ensures.is in
+    let block = c.block_key_of-block.ensures.is in
     record {
-      within = subst (Took c.update.new.self) (c.inner-of.ensures ∙ ap (xors ipad) block ∙ sym (append-nil (inner_key key))) (c.update.ensures [] c.new-inner.ensures);
-      around = subst (Took c.update-2.new.self) (c.outer-of.ensures ∙ ap (xors opad) block) (c.update-2.ensures [] c.new-outer.ensures);
+      within = subst (Took c.update.new.self) (c.inner_of.ensures ∙ ap (xors ipad) block ∙ sym (append-nil (inner_key key))) (c.update.ensures [] c.new-inner.ensures);
+      around = subst (Took c.update-2.new.self) (c.outer_of.ensures ∙ ap (xors opad) block) (c.update-2.ensures [] c.new-outer.ensures);
     }

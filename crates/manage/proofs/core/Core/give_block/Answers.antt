@@ -5,20 +5,20 @@ use Rattle.replies.specs.Blocks.{Part, seen, block_of}
 use Rattle.manage.proofs.Gives.{gives, block_length}
 use Rattle.manage.proofs.core.Core.give_block.Goals as goal
 
-pub overflow-add-self : goal.overflow-add-self
-overflow-add-self c =
-    let e : seen c.reply-block-block.result ≡ block_of (held c.args.waiting.reply) c.args.waiting.given c.args.most = cc in
-    let h = (block_length (held c.args.waiting.reply) c.args.waiting.given c.args.most (seen c.reply-block-block.result) e).1 (omega (arith, length-take c.args.waiting.reply.len c.args.waiting.reply.bytes, c.as-slice.ensures.within, ap length c.as-slice.ensures.bytes)) (omega arith) in
+pub overflow_add-self : goal.overflow_add-self
+overflow_add-self c =
+    let e : seen c.reply_block-block.result ≡ block_of (held c.args.waiting.reply) c.args.waiting.given c.args.most = cc in
+    let h = (block_length (held c.args.waiting.reply) c.args.waiting.given c.args.most (seen c.reply_block-block.result) e).1 (omega (arith, length-take c.args.waiting.reply.len c.args.waiting.reply.bytes, c.as_slice.ensures.within, ap length c.as_slice.ensures.bytes)) (omega arith) in
     omega (arith, h)
 
-pub put-reply-requires : goal.put-reply-requires
-put-reply-requires c =
-    let e : seen c.reply-block-block.result ≡ block_of (held c.args.waiting.reply) c.args.waiting.given c.args.most = cc in
-    let l = (block_length (held c.args.waiting.reply) c.args.waiting.given c.args.most (seen c.reply-block-block.result) e).0 in
+pub put_reply-requires : goal.put_reply-requires
+put_reply-requires c =
+    let e : seen c.reply_block-block.result ≡ block_of (held c.args.waiting.reply) c.args.waiting.given c.args.most = cc in
+    let l = (block_length (held c.args.waiting.reply) c.args.waiting.given c.args.most (seen c.reply_block-block.result) e).0 in
     omega arith
 
 pub returns : goal.returns
 returns c =
-    let e : seen c.reply-block-block.result ≡ block_of (held c.args.waiting.reply) c.args.waiting.given c.args.most = cc in
-    gives c.args.self.now c.args.waiting.kind c.args.waiting.reply c.args.waiting.given c.args.most c.put-reply.result
-    (seen c.reply-block-block.result) c.end-of.result c.args.reply.now c.put-reply.new.buffer e c.end-of.ensures c.put-reply.ensures.len c.put-reply.ensures.written
+    let e : seen c.reply_block-block.result ≡ block_of (held c.args.waiting.reply) c.args.waiting.given c.args.most = cc in
+    gives c.args.self.now c.args.waiting.kind c.args.waiting.reply c.args.waiting.given c.args.most c.put_reply.result
+    (seen c.reply_block-block.result) c.end_of.result c.args.reply.now c.put_reply.new.buffer e c.end_of.ensures c.put_reply.ensures.len c.put_reply.ensures.written

@@ -9,11 +9,11 @@ use Rattle.manage.specs.View.{core_of}
 use Rattle.manage.proofs.Said.{still, no_data, with_data, said_same}
 use Rattle.manage.proofs.core.Core.join.Goals as goal
 
-pub returns-in-default : goal.returns-in-default
-returns-in-default c =
+pub returns-in_default : goal.returns-in_default
+returns-in_default c =
     let d = c.args.self.now in
     still (joins keyed (core_of d) c.args.random.now (kind_of c.args.kind) c.args.gathered.now (shape_of c.args.body)) d WrongLength
-    (no_data keyed (core_of d) c.args.random.now (kind_of c.args.kind) c.args.gathered.now (shape_of c.args.body) c.in-default.ensures.value)
+    (no_data keyed (core_of d) c.args.random.now (kind_of c.args.kind) c.args.gathered.now (shape_of c.args.body) c.in_default.ensures.value)
 
 pub returns : goal.returns
 returns c =

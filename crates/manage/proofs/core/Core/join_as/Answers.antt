@@ -23,5 +23,5 @@ returns c =
     let by = continues_as keyed (core_of d) c.args.random.now (kind_of c.args.kind) (held c.args.gathered.bytes) (shape_of c.args.body) in
     let same = same_kind (kind_of c.args.gathered.kind) (kind_of c.args.kind) in
     let join : List ℕ → _ = λ j. joins keyed (core_of d) c.args.random.now (kind_of c.args.kind) j (shape_of c.args.body) in
-    said_same (by same) (join c.as-slice.result.now) d c.join.new.self c.join.result
-    (ap by (sym c.if-not-same.ensures) ∙ ap join (sym c.as-slice.ensures.bytes)) c.join.ensures
+    said_same (by same) (join c.as_slice.result.now) d c.join.new.self c.join.result
+    (ap by (sym c.if-not-same.ensures) ∙ ap join (sym c.as_slice.ensures.bytes)) c.join.ensures

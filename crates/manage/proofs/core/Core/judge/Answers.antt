@@ -13,4 +13,4 @@ returns-in-Bad c =
 pub returns-in-Incomplete : goal.returns-in-Incomplete
 returns-in-Incomplete c =
     joined_begun keyed c.args.self.now c.args.random.now (kind_of c.args.kind) c.args.bytes.now (object c.args.bytes.now)
-    (record { kind = c.args.kind; bytes = c.from-slice.result }) c.in-Incomplete.ensures.object refl c.from-slice.ensures
+    (record { kind = c.args.kind; bytes = c.from_slice.result }) c.in-Incomplete.ensures.object refl c.from_slice.ensures

@@ -18,7 +18,7 @@ returns-in-Object c =
     let by : Pending → Move = λ p. continues keyed (core_of d) c.args.random.now (kind_of c.args.kind) (shape_of c.args.body) (pending_of p) in
     said_same (by d.pending)
     (continues_as keyed (core_of d) c.args.random.now (kind_of c.args.kind) (held g.bytes) (shape_of c.args.body) (same_kind (kind_of g.kind) (kind_of c.args.kind)))
-    d c.join-as.new.self c.join-as.result (ap by c.in-Object.is) c.join-as.ensures
+    d c.join_as.new.self c.join_as.result (ap by c.in-Object.is) c.join_as.ensures
 
 pub returns-in-Nothing : goal.returns-in-Nothing
 returns-in-Nothing c =

@@ -8,5 +8,5 @@ use Rattle.manage.proofs.core.Core.say.Goals as goal
 pub returns : goal.returns
 returns c =
     let b = c.args.self.now in
-    with_status (says (core_of b) c.args.status) b b c.args.status c.args.reply.now c.put-status.new.buffer c.put-status.result
-    (record { move = refl; answers = stays b.tables }) c.put-status.ensures.len c.put-status.ensures.written
+    with_status (says (core_of b) c.args.status) b b c.args.status c.args.reply.now c.put_status.new.buffer c.put_status.result
+    (record { move = refl; answers = stays b.tables }) c.put_status.ensures.len c.put_status.ensures.written

@@ -6,6 +6,6 @@ pub returns : goal.returns
 unfolding taken left
 returns c = search rules
 
-pub returns-in-err-size : goal.returns-in-err-size
+pub returns-in_err-size : goal.returns-in_err-size
 unfolding taken left
-returns-in-err-size c = search rules
+returns-in_err-size c = search rules

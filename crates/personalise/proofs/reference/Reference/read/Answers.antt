@@ -5,9 +5,9 @@ use Rattle.numerals.specs.Hexadecimal.{sized, unhex}
 use Rattle.numerals.proofs.Pairs.{sized_none, sized_half}
 use Rattle.personalise.proofs.reference.Reference.read.Goals as goal
 
-pub returns-then-not-is-allowed : goal.returns-then-not-is-allowed
-returns-then-not-is-allowed c =
-    sym (sized_none c.args.digits.now 22 68 (λ n l h e. both_ways c.is-allowed.result c.if-not-is-allowed.true (c.is-allowed.ensures.1 (omega arith, omega arith))))
+pub returns-then-not-is_allowed : goal.returns-then-not-is_allowed
+returns-then-not-is_allowed c =
+    sym (sized_none c.args.digits.now 22 68 (λ n l h e. both_ways c.is_allowed.result c.if-not-is_allowed.true (c.is_allowed.ensures.1 (omega arith, omega arith))))
 
 -- What was read into a part of half as many bytes.
 read_half : (cs part : List ℕ) (n : ℕ) (o : Option (List ℕ)) → length part ≡ n → n ≡ length cs / 2 → (22 ≤ n) × (n ≤ 68) → o ≡ sized (length part) (length part) (unhex cs) → o ≡ sized 22 68 (unhex cs)
@@ -16,16 +16,16 @@ read_half cs part n o e f h g = g ∙ ap (λ m. sized m m (unhex cs)) e ∙ size
 room : (n : ℕ) → n ≤ 68 → length {A = ℕ} (take (n - 0) (replicate 68 0)) ≡ n
 room n h = simp length-take (omega arith)
 
-pub returns-then-not-read-hexadecimal : goal.returns-then-not-read-hexadecimal
-returns-then-not-read-hexadecimal c =
+pub returns-then-not-read_hexadecimal : goal.returns-then-not-read_hexadecimal
+returns-then-not-read_hexadecimal c =
     let n = length c.args.digits.now / 2 in
-    let h : (22 ≤ n) × (n ≤ 68) = c.is-allowed.ensures.0 c.if-not-is-allowed.false in
-    read_half c.args.digits.now (take (n - 0) (replicate 68 0)) n None (room n h.1) refl h c.if-not-read-hexadecimal.ensures
+    let h : (22 ≤ n) × (n ≤ 68) = c.is_allowed.ensures.0 c.if-not-is_allowed.false in
+    read_half c.args.digits.now (take (n - 0) (replicate 68 0)) n None (room n h.1) refl h c.if-not-read_hexadecimal.ensures
 
 pub returns : goal.returns
 returns c =
     let n = length c.args.digits.now / 2 in
-    let h : (22 ≤ n) × (n ≤ 68) = c.is-allowed.ensures.0 c.if-not-is-allowed.false in
-    let e : length c.read-hexadecimal.new.bytes ≡ n = c.read-hexadecimal.auto.bytes ∙ room n h.1 in
-    ap Some (take_at c.read-hexadecimal.new.bytes _ n e)
-    ∙ read_half c.args.digits.now (take (n - 0) (replicate 68 0)) n (Some c.read-hexadecimal.new.bytes) (room n h.1) refl h c.if-not-read-hexadecimal.ensures
+    let h : (22 ≤ n) × (n ≤ 68) = c.is_allowed.ensures.0 c.if-not-is_allowed.false in
+    let e : length c.read_hexadecimal.new.bytes ≡ n = c.read_hexadecimal.auto.bytes ∙ room n h.1 in
+    ap Some (take_at c.read_hexadecimal.new.bytes _ n e)
+    ∙ read_half c.args.digits.now (take (n - 0) (replicate 68 0)) n (Some c.read_hexadecimal.new.bytes) (room n h.1) refl h c.if-not-read_hexadecimal.ensures

@@ -4,5 +4,5 @@ use Rattle.apdu.specs.View.{command_of}
 use Rattle.apdu.specs.Command.{Command}
 use Rattle.request.proofs.request.Request.read.Goals as goal
 
-pub by-header-requires : goal.by-header-requires
-by-header-requires c = (c.read.ensures.exact.sound (command_of c.in-Some.command) (ap (option_map command_of) c.in-Some.is)).0
+pub by_header-requires : goal.by_header-requires
+by_header-requires c = (c.read.ensures.exact.sound (command_of c.in-Some.command) (ap (option_map command_of) c.in-Some.is)).0

@@ -11,4 +11,4 @@ returns c bytes t =
     let e : n - 0 ≡ n = omega arith in
     let tail = ap (λ k. take k c.pad-n.new.tail) e ∙ c.pad-n.ensures.is ∙ ap padding t.counted ∙ padding_low (length bytes) in
     let u = c.update.ensures bytes t in
-    c.bytes-of.ensures ∙ ap written (u.chained ∙ ap (λ y. hashed (length (bytes ++ y) / 64) (bytes ++ y)) tail)
+    c.bytes_of.ensures ∙ ap written (u.chained ∙ ap (λ y. hashed (length (bytes ++ y) / 64) (bytes ++ y)) tail)

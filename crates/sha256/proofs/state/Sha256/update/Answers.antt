@@ -11,7 +11,7 @@ pub loop-at-preserved : goal.loop-at-preserved
 loop-at-preserved c =
     let part = c.args.part.now in
     let i = c.loop-at.at in
-    let n = c.piece-len-n.result in
+    let n = c.piece_len-n.result in
     let e : i + n - i ≡ n = omega arith in (
       omega arith,
       λ bytes t.

@@ -14,7 +14,7 @@ returns c =
     let m = c.args.master in
     record {
       tables = tables_same (keys_of t.keys) (keys_of t.keys) _ _ _ _ refl
-          (lent_seen master_of counted_master t.masters m.row _ m.item c.count-connection.new.row c.requires.held c.count-connection.ensures)
+          (lent_seen master_of counted_master t.masters m.row _ m.item c.count_connection.new.row c.requires.held c.count_connection.ensures)
           (set_seen connection_of t.connections c.args.row (Some c.args.connection) _ refl);
       answers = row_dropped t.connections c.args.row (Some c.args.connection) (ap (λ (s : Option Session). holds_session (session_of s)) c.requires.unstarted);
     }

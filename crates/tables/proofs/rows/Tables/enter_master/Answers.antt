@@ -11,7 +11,7 @@ returns c =
     let k = c.args.key in
     record {
       tables = tables_same _ _ _ _ (connections_of t.connections) (connections_of t.connections)
-          (lent_seen key_of counted_key t.keys k.row c.index-self-key.result k.item c.count-master.new.row c.requires.held c.count-master.ensures)
+          (lent_seen key_of counted_key t.keys k.row c.index-self-key.result k.item c.count_master.new.row c.requires.held c.count_master.ensures)
           (set_seen master_of t.masters c.args.row (Some c.args.master) _ refl) refl;
       answers = all_kept t.connections;
     }

@@ -6,15 +6,15 @@ use Rattle.terminal.specs.Answer.{is_reply, answer_in, body_in}
 use Rattle.terminal.proofs.Opening.{none_answers, some_answers, lies_within, within_if}
 use Rattle.terminal.proofs.connection.Connection.opened.Goals as goal
 
-pub returns-in-default : goal.returns-in-default
-returns-in-default g c =
+pub returns-in_default : goal.returns-in_default
+returns-in_default g c =
     let me = c.args.self.now in
     let opens = g.S.Sealer.seals.opened me.suite me.secrets.keys in
     let string = c.args.string.now in
     let n = length string in
     let number = c.args.number in
     record {
-      body = none_answers (opens (take n string)) number n string c.open.new.buffer c.in-default.ensures ∙ ap (λ z. answer_in number (opens z)) (take_all n string (omega arith));
+      body = none_answers (opens (take n string)) number n string c.open.new.buffer c.in_default.ensures ∙ ap (λ z. answer_in number (opens z)) (take_all n string (omega arith));
       within = tt;
     }
 

@@ -5,8 +5,8 @@ use Rattle.sealing.specs.Sealing.{text}
 use Rattle.sealing.specs.declared.suite.Direction.TheVariants.{Command}
 use Rattle.terminal.proofs.connection.Connection.seal.Goals as goal
 
-pub slice-bounds-from-slice-end : goal.slice-bounds-from-slice-end
-slice-bounds-from-slice-end g c =
+pub slice_bounds-from_slice-end : goal.slice_bounds-from_slice-end
+slice_bounds-from_slice-end g c =
     let me = c.args.self.now in
     let z = g.S.Sealer.seals.sealed me.suite me.secrets.keys (text Command me.count c.args.body.now) in
     let long = ap length c.seal-len.ensures.bytes ∙ length-append z (drop (length z) c.blank-out.result) in
@@ -18,4 +18,4 @@ returns g c =
     let z = g.S.Sealer.seals.sealed me.suite me.secrets.keys (text Command me.count c.args.body.now) in
     let n = c.seal-len.result in
     let is = ap (take (n - 0)) c.seal-len.ensures.bytes ∙ take_at z (drop (length z) c.blank-out.result) (n - 0) (omega (arith, c.seal-len.ensures.len)) in
-    IfOk-weaker c.from-slice.result (λ v. (vec_items v ≡ take (n - 0) c.seal-len.new.out) × (vec_len v ≡ length (take (n - 0) c.seal-len.new.out))) (λ v. vec_items v ≡ z) (λ v h. h.0 ∙ is) c.from-slice.ensures.made
+    IfOk-weaker c.from_slice.result (λ v. (vec_items v ≡ take (n - 0) c.seal-len.new.out) × (vec_len v ≡ length (take (n - 0) c.seal-len.new.out))) (λ v. vec_items v ≡ z) (λ v h. h.0 ∙ is) c.from_slice.ensures.made
