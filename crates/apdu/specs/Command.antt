@@ -1,5 +1,5 @@
 -- What the bytes of an APDU say.
-use Rattle.std.specs.Prelude.{ℕ, ◌+◌, cond, List, [], ◌∷◌, ◌++◌, length, take, drop, Some, None, Option, ◌==◌, nat_lt, slice_index}
+use Rattle.std.specs.Prelude.{ℕ, ◌+◌, cond, List, [], length, take, drop, Some, None, Option, ◌==◌, nat_lt, slice_index}
 use Rattle.std.specs.Option.{option_map}
 
 -- What stands behind the header: nothing, Le, data alone, or data and Le.

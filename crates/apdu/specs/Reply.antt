@@ -1,5 +1,5 @@
 -- A reply, and a buffer that it is written to.
-use Rattle.std.specs.Prelude.{ℕ, Bool, ◌&&◌, List, [], ◌∷◌, ◌++◌, length, drop, ◌==◌, slice_index}
+use Rattle.std.specs.Prelude.{ℕ, Bool, ◌&&◌, List, ◌++◌, length, drop, ◌==◌, slice_index}
 use Rattle.apdu.specs.declared.status.Status.{Status}
 use Rattle.apdu.specs.StatusWords.{status_bytes}
 

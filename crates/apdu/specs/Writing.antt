@@ -1,5 +1,5 @@
 -- How a command is written, apart from how it is read.
-use Rattle.std.specs.Prelude.{◌≡◌, ℕ, ◌≤◌, cond, List, [], ◌∷◌, ◌++◌, length, Some, None, Option, ◌==◌}
+use Rattle.std.specs.Prelude.{◌≡◌, ℕ, ◌≤◌, cond, List, [], ◌∷◌, ◌++◌, length, Some, Option, ◌==◌}
 use Rattle.apdu.specs.Command.{Shape, bare, le, alone, both, Command}
 
 -- The Le byte that asks for n bytes: 256 is written 00.

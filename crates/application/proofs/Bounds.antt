@@ -1,11 +1,11 @@
 -- How long the replies of an application on APDUs are.
-use Rattle.std.proofs.Common.{ℕ, ◌+◌, ◌≤◌, List, [], length, Some, None, Option, arith}
+use Rattle.std.proofs.Common.{ℕ, ◌≤◌, List, [], length, Some, None, Option, arith}
 use Rattle.apdu.specs.Command.{Command, command_in}
 use Rattle.apdu.specs.Reply.{reply as replying}
 use Rattle.apdu.specs.declared.status.Status.{Status}
 use Rattle.apdu.specs.declared.status.Status.TheVariants.{WrongLength}
 use Rattle.apdu.proofs.StatusFacts.{length_reply}
-use Rattle.application.specs.Acts.{Acts, Bounded}
+use Rattle.application.specs.Acts.{Bounded}
 use Rattle.application.specs.Commands.{Turn, upon, acts_upon}
 
 -- A reply may be so long.

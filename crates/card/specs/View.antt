@@ -2,7 +2,7 @@
 use Rattle.std.specs.Prelude.{◌≡◌, ℕ, ◌≤◌, Bool, true, false, List, length, take, drop, replicate, Some, None, Ok, Err, Option, Result}
 use Rattle.apdu.specs.Reply.{fronted}
 use Rattle.tables.specs.View.{answers_of}
-use Rattle.manage.specs.declared.core.Core.{Core}
+use Rattle.manage.specs.declared.card_core.Core.{Core}
 use Rattle.manage.specs.View.{core_as}
 use Rattle.law.specs.Calls.{Answer, refused_host, replied}
 use Rattle.law.specs.Step.{State, Done}

@@ -1,12 +1,12 @@
 -- What the counter holds is what passed over the line: so it keeps the clearing house's law.
-use Rattle.std.proofs.Common.{◌≡◌, ℕ, ◌+◌, ◌<◌, ◌≤◌, Bool, true, false, cond, ◌&&◌, eqb, ltb, List, [], ◌∷◌, ◌++◌, length, Some, None, Option, sym, refl, ap, ◌∙◌, subst, ⊎_elim, arith}
+use Rattle.std.proofs.Common.{◌≡◌, ℕ, ◌<◌, ◌≤◌, Bool, true, false, cond, ◌&&◌, eqb, ltb, List, [], ◌∷◌, ◌++◌, length, Some, None, Option, sym, refl, ap, ◌∙◌, subst, ⊎_elim, arith}
 use Rattle.std.proofs.lemmas.List.{append-nil, append_assoc, length_push}
 use Rattle.std.proofs.lemmas.Bool.{cases_lt, lt-ltb, le-ltb}
 use Rattle.byte_lists.specs.Numbers.{octets}
 use Rattle.apdu.specs.Command.{Command, command_in, data_of}
 use Rattle.apdu.specs.Reply.{reply as replying, says}
-use Rattle.apdu.specs.declared.status.Status.TheVariants.{Done, WrongData, NoRoom, UnknownInstruction}
-use Rattle.application.specs.Acts.{Acts, after, line}
+use Rattle.apdu.specs.declared.status.Status.TheVariants.{Done, NoRoom, UnknownInstruction}
+use Rattle.application.specs.Acts.{after, line}
 use Rattle.application.specs.Commands.{Turn, turn, upon}
 use Rattle.fares.specs.declared.fare.Fare.{Fare}
 use Rattle.fares.specs.Counter.{fare_in, takings, append, carried, counts}

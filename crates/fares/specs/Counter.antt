@@ -2,7 +2,6 @@
 use Rattle.std.specs.Prelude.{ℕ, cond, ◌&&◌, List, [], ◌∷◌, ◌++◌, length, take, drop, Some, None, sum_by, Option, ◌==◌, nat_lt, slice_index}
 use Rattle.byte_lists.specs.Numbers.{octets, number}
 use Rattle.apdu.specs.Command.{Command, data_of}
-use Rattle.apdu.specs.declared.status.Status.{Status}
 use Rattle.apdu.specs.declared.status.Status.TheVariants.{Done, WrongData, NoRoom, UnknownInstruction}
 use Rattle.application.specs.Acts.{Acts}
 use Rattle.application.specs.Commands.{Turn, turn, acts_upon}

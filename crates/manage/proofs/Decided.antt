@@ -15,7 +15,7 @@ use Rattle.law.specs.Step.{Move, says, put, nothing, decides, joined}
 use Rattle.associate.specs.Outcome.{Outcome, done, decided, outcome}
 use Rattle.tables.specs.declared.rows.Tables.{Tables}
 use Rattle.tables.specs.View.{tables_of, Keeps}
-use Rattle.manage.specs.declared.core.Core.{Core}
+use Rattle.manage.specs.declared.card_core.Core.{Core}
 use Rattle.manage.specs.View.{core_of, with_tables, with_pending, failures_after, refused_core, granted, Said}
 use Rattle.manage.specs.declared.pending.Gathered.{Gathered}
 use Rattle.manage.specs.declared.pending.Pending.TheVariants as pending

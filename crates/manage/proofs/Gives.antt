@@ -14,7 +14,7 @@ use Rattle.law.specs.Calls.{replied}
 use Rattle.law.specs.Step as law
 use Rattle.law.specs.Step.{Move, does, given, put, waits}
 use Rattle.manage.specs.declared.pending.Pending.TheVariants as pending
-use Rattle.manage.specs.declared.core.Core.{Core}
+use Rattle.manage.specs.declared.card_core.Core.{Core}
 use Rattle.manage.specs.View.{core_of, Replied}
 use Rattle.manage.proofs.Stays.{stays}
 

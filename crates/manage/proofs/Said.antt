@@ -10,7 +10,7 @@ use Rattle.law.specs.Step as law_step
 use Rattle.law.specs.Associations.{Hashing}
 use Rattle.law.specs.Step.{Move, says, given, gives_reply, joins, joined}
 use Rattle.law.proofs.Rows.{no_some, some_same}
-use Rattle.manage.specs.declared.core.Core.{Core}
+use Rattle.manage.specs.declared.card_core.Core.{Core}
 use Rattle.manage.specs.View.{core_of, Said, Replied}
 use Rattle.manage.specs.Shapes.{le_alone, data_alone}
 use Rattle.manage.proofs.Stays.{stays}

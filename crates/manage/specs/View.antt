@@ -13,7 +13,7 @@ use Rattle.law.specs.Step as law
 use Rattle.law.specs.Step.{Move, does, says}
 use Rattle.manage.specs.declared.pending.Pending.{Pending}
 use Rattle.manage.specs.declared.pending.Pending.TheVariants.{Nothing, Object, Reply}
-use Rattle.manage.specs.declared.core.Core.{Core}
+use Rattle.manage.specs.declared.card_core.Core.{Core}
 
 abbrev pub pending_of : Pending → law.Pending
 pending_of Nothing = law.nothing

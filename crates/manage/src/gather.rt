@@ -12,7 +12,7 @@ ghost use Rattle.law.specs.Step.{says, put, waits, nothing, decides, joined, joi
 ghost use Rattle.tables.specs.View.{tables_of};
 ghost use Rattle.manage.specs.View.{core_of, pending_of, with_pending, refused_core, granted, Said};
 
-use crate::core::Core;
+use crate::card_core::Core;
 use crate::join::join;
 use crate::pending::{Gathered, Pending, Waiting};
 use crate::shape::data_alone;

@@ -9,7 +9,7 @@ ghost use Rattle.law.specs.Request.{discovery, same_kind};
 ghost use Rattle.law.specs.Step.{says, given, gives_reply, replies_as, answers, goes_on, discovery_object};
 ghost use Rattle.manage.specs.View.{core_of, pending_of, Replied};
 
-use crate::core::Core;
+use crate::card_core::Core;
 use crate::pending::{Pending, Waiting};
 use crate::shape::le_alone;
 use apdu::{Body, Status, put_reply, put_status};

@@ -1,11 +1,11 @@
 -- The beginnings of a complete object, and what is longer than it.
-use Rattle.std.proofs.Common.{◌≡◌, ℕ, ◌+◌, ◌<◌, ◌≤◌, List, [], ◌∷◌, ◌++◌, length, take, drop, sym, refl, ap, ◌∙◌, arith}
+use Rattle.std.proofs.Common.{◌≡◌, ℕ, ◌+◌, ◌<◌, List, ◌++◌, length, take, drop, sym, refl, ap, ◌∙◌, arith}
 use Rattle.std.proofs.lemmas.List.{length-append, length-take-le, take-append-drop}
 use Rattle.std.proofs.lemmas.Bool.Decides.{nat_tests}
 use Rattle.byte_lists.specs.Bytes.{Bytes}
 use Rattle.objects.specs.declared.join.Header.{Header}
 use Rattle.objects.specs.declared.join.Header.TheVariants as header
-use Rattle.objects.specs.Joined.{Object, incomplete, bad, value, header_of, filled, under, object}
+use Rattle.objects.specs.Joined.{incomplete, bad, value, header_of, filled, under, object}
 use Rattle.objects.specs.Laws.{PrefixFree}
 use Rattle.objects.proofs.Firm.{header_stays_bad, header_stays}
 

@@ -1,10 +1,9 @@
 -- A header once judged stays as judged, whatever follows.
-use Rattle.std.proofs.Common.{◌≡◌, ℕ, ◌+◌, ◌<◌, ◌≤◌, Bool, true, false, cond, eqb, ltb, List, [], ◌∷◌, ◌++◌, length, get_or, take, drop, sym, refl, ap, ◌∙◌, arith}
+use Rattle.std.proofs.Common.{◌≡◌, ℕ, List, ◌++◌, arith}
 use Rattle.std.proofs.lemmas.List.{get_or_append_left, length-append}
 use Rattle.std.proofs.lemmas.Bool.Decides.{nat_tests}
-use Rattle.objects.specs.declared.join.Header.{Header}
 use Rattle.objects.specs.declared.join.Header.TheVariants as header
-use Rattle.objects.specs.Joined.{header_of, said_length}
+use Rattle.objects.specs.Joined.{header_of}
 
 pub header_stays_bad : (bs more : List ℕ) → header_of bs ≡ header.Bad → header_of (bs ++ more) ≡ header.Bad
 header_stays_bad bs more e = grind (arith, nat_tests, get_or_append_left, length-append)

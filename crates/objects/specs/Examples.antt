@@ -1,7 +1,7 @@
 -- Either side of a line, worked.
 use Rattle.std.specs.Prelude.{◌≡◌, ℕ, List, [], ◌∷◌, ◌++◌, replicate}
-use Rattle.objects.specs.Joined.{Object, incomplete, bad, value, object}
-use Rattle.objects.specs.Asked.{Asked, layout, ask_master, ask_start, end_master, end_connection, asked_master, asked_start, asked_end}
+use Rattle.objects.specs.Joined.{incomplete, bad, value, object}
+use Rattle.objects.specs.Asked.{layout, ask_master, ask_start, end_master, end_connection, asked_master, asked_start, asked_end}
 
 -- Tag, length byte, and a value of one byte repeated.
 abbrev filling : ℕ → ℕ → ℕ → List ℕ

@@ -1,5 +1,5 @@
 -- Joined blocks: one object, which is 73, a length and a value of that length.
-use Rattle.std.specs.Prelude.{ℕ, ◌+◌, Bool, cond, List, length, drop, ◌==◌, nat_lt, slice_index}
+use Rattle.std.specs.Prelude.{ℕ, ◌+◌, cond, List, length, drop, ◌==◌, nat_lt, slice_index}
 use Rattle.objects.specs.declared.join.Header.{Header}
 use Rattle.objects.specs.declared.join.Header.TheVariants as header
 use Rattle.objects.specs.declared.join.Joined.{Joined}

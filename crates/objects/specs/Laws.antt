@@ -1,7 +1,7 @@
 -- Laws of joined blocks, over all byte strings.
 use Rattle.std.specs.Prelude.{◌≡◌, ℕ, ◌<◌, List, ◌++◌, length, take}
 use Rattle.byte_lists.specs.Bytes.{Bytes}
-use Rattle.objects.specs.Joined.{Object, incomplete, bad, value, object}
+use Rattle.objects.specs.Joined.{incomplete, bad, value, object}
 
 pub record PrefixFree : Type 0 where
   -- every proper beginning of a complete object is incomplete

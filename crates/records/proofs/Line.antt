@@ -1,10 +1,10 @@
 -- What the file holds is what passed over the line: so it keeps its user's law.
-use Rattle.std.proofs.Common.{◌≡◌, ℕ, ◌-◌, ◌<◌, ◌≤◌, Bool, true, false, cond, ◌&&◌, eqb, List, [], ◌∷◌, length, replicate, Some, None, Option, sym, refl, ap, ◌∙◌, subst, ⊎_elim, arith}
+use Rattle.std.proofs.Common.{◌≡◌, ℕ, ◌-◌, ◌<◌, ◌≤◌, Bool, true, false, cond, ◌&&◌, eqb, List, [], ◌∷◌, length, Some, None, Option, sym, refl, ap, ◌∙◌, subst, ⊎_elim, arith}
 use Rattle.std.proofs.lemmas.Bool.{cases_eq, eq-eqb, ne_eqb, eqb-true}
 use Rattle.apdu.specs.Command.{Command, command_in, data_of}
 use Rattle.apdu.specs.Reply.{reply as replying, says}
 use Rattle.apdu.specs.declared.status.Status.TheVariants.{Done, UnknownInstruction}
-use Rattle.application.specs.Acts.{Acts, after, line}
+use Rattle.application.specs.Acts.{after, line}
 use Rattle.application.specs.Commands.{Turn, turn, upon}
 use Rattle.records.specs.File.{blank, place, record_at, read_at, write_at, carried, keeps}
 use Rattle.records.specs.Kept.{wrote, last_written, KeepsRecords}

@@ -1,9 +1,9 @@
 -- The numbers of records and their places, and what a write leaves at each place.
-use Rattle.std.proofs.Common.{◌≡◌, ℕ, ◌-◌, ◌<◌, ◌≤◌, Bool, true, false, cond, ◌&&◌, eqb, leb, ◌≢◌, List, [], length, get_or, take, set, replicate, Some, None, Option, sym, refl, ap, ◌∙◌, subst, arith}
+use Rattle.std.proofs.Common.{◌≡◌, ℕ, ◌-◌, ◌<◌, ◌≤◌, Bool, true, false, cond, ◌&&◌, eqb, leb, List, [], length, take, set, replicate, Some, None, Option, refl, ap, ◌∙◌, arith}
 use Rattle.std.proofs.lemmas.List.{length-set, get_or-set_same, get_or-set_other, get_or-replicate, take_all}
-use Rattle.std.proofs.lemmas.Bool.{cond_both, and_from, and_parts, le-leb, leb-true, eq-eqb, eqb-true}
+use Rattle.std.proofs.lemmas.Bool.{and_from, and_parts, le-leb, leb-true, eq-eqb, eqb-true}
 use Rattle.apdu.specs.Reply.{reply as replying, says}
-use Rattle.apdu.specs.declared.status.Status.TheVariants.{Done, WrongLength, NoSuchRecord}
+use Rattle.apdu.specs.declared.status.Status.TheVariants.{Done, WrongLength}
 use Rattle.application.specs.Commands.{Turn, turn}
 use Rattle.records.specs.File.{blank, place, record_at, read_at, write_at}
 

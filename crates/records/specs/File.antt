@@ -1,7 +1,6 @@
 -- What the record file means, over the list of its records.
-use Rattle.std.specs.Prelude.{ℕ, ◌-◌, cond, ◌&&◌, List, [], ◌∷◌, ◌++◌, length, take, replicate, Some, None, Option, ◌==◌, nat_le, slice_index_or, slice_set}
+use Rattle.std.specs.Prelude.{ℕ, ◌-◌, cond, ◌&&◌, List, [], length, take, replicate, Some, None, Option, ◌==◌, nat_le, slice_index_or, slice_set}
 use Rattle.apdu.specs.Command.{Command, data_of}
-use Rattle.apdu.specs.declared.status.Status.{Status}
 use Rattle.apdu.specs.declared.status.Status.TheVariants.{Done, WrongLength, NoSuchRecord, UnknownInstruction}
 use Rattle.application.specs.Acts.{Acts}
 use Rattle.application.specs.Commands.{Turn, turn, acts_upon}

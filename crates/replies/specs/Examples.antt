@@ -1,5 +1,5 @@
 -- Either side of a line, worked.
-use Rattle.std.specs.Prelude.{◌≡◌, ℕ, Bool, true, false, List, [], ◌∷◌, ◌++◌, replicate, Some, None, Option}
+use Rattle.std.specs.Prelude.{◌≡◌, ℕ, Bool, true, false, List, [], ◌∷◌, replicate, Some, None}
 use Rattle.replies.specs.declared.reply.Reply.TheVariants.{Discovery, Session}
 use Rattle.replies.specs.Reply.{reply_object}
 use Rattle.replies.specs.Blocks.{Part, block_of, cut_block, cut_count}

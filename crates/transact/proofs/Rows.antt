@@ -3,7 +3,7 @@ use Rattle.std.proofs.Common.{◌≡◌, ℕ, Bool, false, List, sym, refl, ap, 
 use Rattle.apdu.specs.declared.status.Status.{Status}
 use Rattle.tables.specs.declared.rows.Tables.{Tables}
 use Rattle.tables.specs.View.{tables_of, Keeps}
-use Rattle.manage.specs.declared.core.Core.{Core}
+use Rattle.manage.specs.declared.card_core.Core.{Core}
 use Rattle.manage.specs.View.{core_of, with_tables, with_failures, Said}
 use Rattle.law.specs.Tables as law
 use Rattle.law.specs.Tables.{put_connection}

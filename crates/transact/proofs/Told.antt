@@ -18,7 +18,7 @@ use Rattle.session.proofs.Moves.{block_in_session, block_ends, fetch_in_session,
 use Rattle.tables.specs.declared.rows.Connection.{Connection}
 use Rattle.tables.specs.View.{connection_of, answer_at}
 use Rattle.tables.proofs.Kept.{all_kept}
-use Rattle.manage.specs.declared.core.Core.{Core}
+use Rattle.manage.specs.declared.card_core.Core.{Core}
 use Rattle.manage.specs.View.{core_of, Said}
 use Rattle.law.specs.Calls.{replied}
 use Rattle.law.specs.Request as line

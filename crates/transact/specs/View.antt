@@ -6,7 +6,7 @@ use Rattle.apdu.specs.declared.status.Status.TheVariants as sw
 use Rattle.session.specs.declared.event.Heard.{Heard}
 use Rattle.session.specs.declared.event.Heard.TheVariants.{Refused, Repeated, Joined, Gives, Discarded}
 use Rattle.tables.specs.View.{answers_of}
-use Rattle.manage.specs.declared.core.Core.{Core}
+use Rattle.manage.specs.declared.card_core.Core.{Core}
 use Rattle.manage.specs.View.{core_of}
 use Rattle.law.specs.Request.{Block}
 use Rattle.law.specs.Tables.{Talk, idle, gathering, answered}

@@ -1,4 +1,4 @@
-use Rattle.std.proofs.Common.{◌≡◌, [], ◌∷◌, get_or, sym, ◌∙◌, arith}
+use Rattle.std.proofs.Common.{[], ◌∷◌, get_or, sym, ◌∙◌, arith}
 use Rattle.numerals.specs.Decimal.{digits}
 use Rattle.numerals.proofs.Digits.{stops_at, goes_on, upto_le, all_read}
 use Rattle.numerals.proofs.decimal.read_digits.Goals as goal

@@ -1,4 +1,4 @@
-use Rattle.std.proofs.Common.{◌≡◌, ◌+◌, ◌*◌, ◌<◌, length, take, sym, ap, ◌∙◌, arith}
+use Rattle.std.proofs.Common.{◌+◌, ◌*◌, ◌<◌, length, take, sym, ap, ◌∙◌, arith}
 use Rattle.numerals.specs.Hexadecimal.{unhex}
 use Rattle.numerals.proofs.Pairs.{behind, behind_none, stops_high, stops_low, goes_on, all_filled}
 use Rattle.numerals.proofs.hexadecimal.fill.Goals as goal

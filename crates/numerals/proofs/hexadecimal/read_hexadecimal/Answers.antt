@@ -1,4 +1,4 @@
-use Rattle.std.proofs.Common.{◌≡◌, length, sym, ◌∙◌, le_refl, arith}
+use Rattle.std.proofs.Common.{length, sym, ◌∙◌, le_refl, arith}
 use Rattle.numerals.proofs.Pairs.{sized_all, sized_none}
 use Rattle.numerals.proofs.hexadecimal.read_hexadecimal.Goals as goal
 use Rattle.numerals.proofs.hexadecimal.read_hexadecimal.Goals.{then-text-ne0-via-then-text-ne0, then-text-ne0-via-else-text-ne0+then-text-bytes}

@@ -1,4 +1,4 @@
-use Rattle.std.proofs.Common.{◌≡◌, ◌+◌, ◌-◌, ◌≤◌, length, take, drop, arith}
+use Rattle.std.proofs.Common.{◌+◌, ◌-◌, length, take, drop, arith}
 use Rattle.replies.specs.Reply.{tagged}
 use Rattle.replies.proofs.Front.{written_behind}
 use Rattle.replies.proofs.write.Writer.push.Goals as goal

@@ -6,7 +6,7 @@ use Rattle.request.specs.View.{kind_of}
 use Rattle.law.specs.Step.{says, given, gives_reply}
 use Rattle.manage.specs.View.{core_of}
 use Rattle.manage.proofs.Said.{is_same, no_le, with_le}
-use Rattle.manage.proofs.core.Core.give.Goals as goal
+use Rattle.manage.proofs.card_core.Core.give.Goals as goal
 
 pub returns-in_default : goal.returns-in_default
 returns-in_default c =

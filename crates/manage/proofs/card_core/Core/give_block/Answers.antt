@@ -3,7 +3,7 @@ use Rattle.std.proofs.lemmas.List.{length-take}
 use Rattle.buffer.specs.Held.{held}
 use Rattle.replies.specs.Blocks.{Part, seen, block_of}
 use Rattle.manage.proofs.Gives.{gives, block_length}
-use Rattle.manage.proofs.core.Core.give_block.Goals as goal
+use Rattle.manage.proofs.card_core.Core.give_block.Goals as goal
 
 pub overflow_add-self : goal.overflow_add-self
 overflow_add-self c =

@@ -7,7 +7,7 @@ use Rattle.law.specs.Hashes.{keyed}
 use Rattle.law.specs.Step.{joins, joined}
 use Rattle.manage.specs.View.{core_of}
 use Rattle.manage.proofs.Said.{still, no_data, with_data, said_same}
-use Rattle.manage.proofs.core.Core.join.Goals as goal
+use Rattle.manage.proofs.card_core.Core.join.Goals as goal
 
 pub returns-in_default : goal.returns-in_default
 returns-in_default c =

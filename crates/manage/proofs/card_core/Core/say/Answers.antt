@@ -3,7 +3,7 @@ use Rattle.law.specs.Step.{says}
 use Rattle.manage.specs.View.{core_of}
 use Rattle.manage.proofs.Stays.{stays}
 use Rattle.manage.proofs.Said.{with_status}
-use Rattle.manage.proofs.core.Core.say.Goals as goal
+use Rattle.manage.proofs.card_core.Core.say.Goals as goal
 
 pub returns : goal.returns
 returns c =

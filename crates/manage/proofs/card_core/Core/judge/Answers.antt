@@ -3,7 +3,7 @@ use Rattle.objects.specs.Joined.{object}
 use Rattle.request.specs.View.{kind_of}
 use Rattle.law.specs.Hashes.{keyed}
 use Rattle.manage.proofs.Decided.{joined_bad, joined_begun}
-use Rattle.manage.proofs.core.Core.judge.Goals as goal
+use Rattle.manage.proofs.card_core.Core.judge.Goals as goal
 
 pub returns-in-Bad : goal.returns-in-Bad
 returns-in-Bad c =

@@ -3,7 +3,7 @@ use Rattle.request.specs.View.{kind_of}
 use Rattle.law.specs.Request.{asked}
 use Rattle.law.specs.Hashes.{keyed}
 use Rattle.manage.proofs.Decided.{refused_by, granted_by}
-use Rattle.manage.proofs.core.Core.carry_out.Goals as goal
+use Rattle.manage.proofs.card_core.Core.carry_out.Goals as goal
 
 pub returns-in-Ok : goal.returns-in-Ok
 returns-in-Ok c =

@@ -9,7 +9,7 @@ use Rattle.law.specs.Step.{Move, continues, continues_as}
 use Rattle.manage.specs.View.{core_of, pending_of}
 use Rattle.manage.specs.declared.pending.Pending.{Pending}
 use Rattle.manage.proofs.Said.{still, said_same}
-use Rattle.manage.proofs.core.Core.resume.Goals as goal
+use Rattle.manage.proofs.card_core.Core.resume.Goals as goal
 
 pub returns-in-Object : goal.returns-in-Object
 returns-in-Object c =

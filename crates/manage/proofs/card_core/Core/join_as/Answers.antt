@@ -8,7 +8,7 @@ use Rattle.law.specs.Request.{same_kind}
 use Rattle.law.specs.Step.{says, joins, continues_as}
 use Rattle.manage.specs.View.{core_of}
 use Rattle.manage.proofs.Said.{still, said_same}
-use Rattle.manage.proofs.core.Core.join_as.Goals as goal
+use Rattle.manage.proofs.card_core.Core.join_as.Goals as goal
 
 pub returns-then-not-same : goal.returns-then-not-same
 returns-then-not-same c =
