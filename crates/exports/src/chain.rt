@@ -13,8 +13,8 @@ pub enum Way {
 
 // Chains a buffer of whole blocks in place, from a block of zeros.
 pub fn chain<C: BlockCipher>(cipher: &C, way: Way, buf: &mut [u8])
-    requires { length buf.old % size ≡ 0 }
-    ensures { buf.new ≡ run way size (enc cipher.now) (dec cipher.now) buf.old }
+    requires { length buf.old % C.size ≡ 0 }
+    ensures { buf.new ≡ run way C.size (C.enc cipher.now) (C.dec cipher.now) buf.old }
 {
     match way {
         Way::Encrypting => cbc_encrypt(cipher, buf, 0),

@@ -1,11 +1,11 @@
 -- What the caller of an opening gets, from what the sealer says of the working copy.
-use Rattle.std.proofs.Common.{◌≡◌, ℕ, suc, ◌+◌, ◌<◌, ◌≤◌, List, ◌++◌, length, take, drop, Some, None, Option, sym, refl, ap, ◌∙◌, subst, arith, length-append}
+use Rattle.std.proofs.Common.{◌≡◌, ℕ, ◌+◌, ◌<◌, ◌≤◌, List, ◌++◌, length, take, drop, Some, None, Option, sym, refl, ap, ◌∙◌, subst, arith, length-append}
 use Rattle.std.proofs.lemmas.List.{take_at}
 use Rattle.byte_lists.specs.Bytes.{Block}
 use Rattle.byte_lists.specs.Numbers.{octets}
 use Rattle.byte_lists.proofs.Digits.{length_octets}
 use Rattle.sealing.specs.Lent.{Opens, OpensTo}
-use Rattle.sealing.specs.Sealing.{Sealing, Faithful, Text, Good, text}
+use Rattle.sealing.specs.Sealing.{Sealing, Faithful, Text, text}
 use Rattle.sealing.specs.declared.sealer.Opened.{Opened}
 use Rattle.sealing.specs.declared.suite.Suite.{Suite}
 use Rattle.sealer_c.specs.Calls.{answer, left, opened_as, plain, Told}

@@ -1,4 +1,4 @@
-use Rattle.std.proofs.Common.{◌≡◌, ℕ, ◌+◌, ◌-◌, ◌≤◌, List, length, take, drop, Some, None, ap, ◌∙◌, arith, rules}
+use Rattle.std.proofs.Common.{◌≡◌, ℕ, ◌+◌, ◌-◌, ◌≤◌, List, length, take, drop, Some, None, ap, arith, rules}
 use Rattle.std.proofs.lemmas.List.{length-take}
 use Rattle.byte_lists.specs.Bytes.{Block}
 use Rattle.byte_lists.proofs.Facts.{bytes_of}

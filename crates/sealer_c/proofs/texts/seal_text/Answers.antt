@@ -1,4 +1,4 @@
-use Rattle.std.proofs.Common.{ℕ, List, length, arith, rules}
+use Rattle.std.proofs.Common.{ℕ, List, arith, rules}
 use Rattle.byte_lists.specs.Bytes.{Block}
 use Rattle.byte_lists.proofs.Facts.{bytes_of}
 use Rattle.sealing.specs.Sealing.{Text, Good, text}
