@@ -1,5 +1,5 @@
 -- AES under a key of bytes: each direction keeps blocks and undoes the other.
-use Rattle.std.proofs.Common.{ℕ, zero, suc, ◌+◌, ◌-◌, ◌*◌, ◌/◌, ◌%◌, ◌<◌, Bool, true, false, cond, eqb, List, [], ◌∷◌, ◌++◌, drop, replicate, lit<}
+use Rattle.std.proofs.Common.{ℕ, zero, suc, ◌+◌, ◌-◌, ◌*◌, ◌/◌, ◌%◌, ◌<◌, Bool, true, false, cond, eqb, List, drop, replicate, lit<}
 use Rattle.byte_lists.specs.Bytes.{Bytes, xors}
 use Rattle.byte_lists.proofs.Facts.{bytes_append, bytes_cons, bytes_drop, bytes_take, bytes_xors, bytes_zeros}
 use Rattle.cipher.specs.Permutes.{Permutes}

@@ -1,5 +1,5 @@
 -- A chain that is run forth and then back gives what it was run on, and so does one run back and then forth.
-use Rattle.std.proofs.Common.{◌≡◌, ℕ, zero, suc, ◌-◌, ◌*◌, ◌/◌, ◌%◌, ◌≤◌, List, ◌++◌, length, take, drop, replicate, sym, refl, ap, ◌∙◌, suc-mul, div-add-mod', arith, length-append, length-drop, take-append-drop}
+use Rattle.std.proofs.Common.{◌≡◌, ℕ, zero, suc, ◌-◌, ◌*◌, ◌/◌, ◌%◌, ◌≤◌, List, ◌++◌, length, take, drop, replicate, refl, ap, ◌∙◌, suc-mul, div-add-mod', arith, length-append, length-drop, take-append-drop}
 use Rattle.std.proofs.lemmas.List.{take_at, drop_at, length-replicate, length-take-le}
 use Rattle.byte_lists.specs.Bytes.{xors, Bytes, Block}
 use Rattle.byte_lists.proofs.Facts.{xors_undone, length_xors, bytes_xors, bytes_append, bytes_drop, bytes_take, bytes_zeros}

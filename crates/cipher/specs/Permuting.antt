@@ -1,7 +1,6 @@
 -- Ciphers made of ciphers.
-use Rattle.std.specs.Prelude.{◌≡◌, ℕ, List}
-use Rattle.std.proofs.Common.{ap, ◌∙◌, subst, sym}
-use Rattle.byte_lists.specs.Bytes.{Block}
+use Rattle.std.specs.Prelude.{ℕ, List}
+use Rattle.std.proofs.Common.{ap, ◌∙◌}
 use Rattle.cipher.specs.Permutes.{Permutes}
 
 -- Decrypting is a cipher too.

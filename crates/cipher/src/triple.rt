@@ -3,7 +3,6 @@ ghost use Rattle.std.specs.Prelude.{◌≡◌, ℕ, List};
 ghost use Rattle.byte_lists.specs.Bytes.{Block};
 ghost use Rattle.cipher.specs.Triple.{in_turn};
 ghost use Rattle.cipher.specs.Permuting.{after, turned};
-ghost use Rattle.std.proofs.Common.{rules};
 
 use crate::block::BlockCipher;
 
@@ -38,7 +37,7 @@ impl<C: BlockCipher> BlockCipher for Triple<C> {
 
     ghost dec = { λ t. in_turn (C.BlockCipher.dec t.third) (C.BlockCipher.enc t.second) (C.BlockCipher.dec t.first) };
 
-    ghost sizes = { Prim.search rules };
+    ghost sizes = { C.BlockCipher.sizes };
 
     ghost permutes = { λ k.
         let laws = C.BlockCipher.permutes in

@@ -1,6 +1,5 @@
 // Ciphers of 16-byte blocks.
 ghost use Rattle.std.specs.Prelude.{◌≡◌};
-ghost use Rattle.std.proofs.Common.{rules};
 
 use crate::block::BlockCipher;
 use crate::triple::Triple;
@@ -11,5 +10,5 @@ pub trait Wide: BlockCipher {
 }
 
 impl<C: Wide> Wide for Triple<C> {
-    ghost wide = { Prim.search rules };
+    ghost wide = { C.Wide.wide };
 }

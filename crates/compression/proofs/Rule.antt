@@ -1,6 +1,6 @@
 -- The rule of the constants, at each entry by one computed test.
-use Rattle.std.proofs.Common.{◌≡◌, ℕ, zero, suc, ◌+◌, ◌*◌, ◌^◌, ◌<◌, ◌≤◌, Bool, true, false, cond, T, ltb, leb, List, length, get_or, sym, refl, subst, leb→le}
-use Rattle.byte_lists.proofs.Tables.{both, both_left, both_right, every, every_at}
+use Rattle.std.proofs.Common.{ℕ, zero, suc, ◌+◌, ◌*◌, ◌^◌, ◌<◌, Bool, cond, T, ltb, leb, get_or, leb→le}
+use Rattle.byte_lists.proofs.Tables.{both, both_left, both_right, every_at}
 use Rattle.compression.specs.Constants.{undivided, primes_below, primes, Fraction, constants, beginnings}
 
 -- The whole part of the d-th root of p, if it is at most n.

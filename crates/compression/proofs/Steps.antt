@@ -1,8 +1,7 @@
 -- The steps of the loops over a schedule and over the rounds.
-use Rattle.std.proofs.Common.{◌≡◌, ℕ, zero, suc, ◌+◌, ◌-◌, ◌<◌, ◌≤◌, List, [], ◌∷◌, ◌++◌, length, get_or, take, set, sym, refl, ap, ◌∙◌, add-one, arith}
+use Rattle.std.proofs.Common.{◌≡◌, ℕ, ◌+◌, ◌-◌, ◌<◌, ◌≤◌, List, [], ◌∷◌, ◌++◌, length, get_or, take, set, sym, refl, ap, ◌∙◌, add-one, arith}
 use Rattle.std.proofs.lemmas.List.{take_more_set, get_or-take}
 use Rattle.compression.specs.declared.letters.Eight.{Eight}
-use Rattle.compression.specs.Words.{plus, σ0, σ1}
 use Rattle.compression.specs.Constants.{constants}
 use Rattle.compression.specs.Compression.{word, words, scheduled, extended, round_of, rounds}
 

@@ -2,7 +2,7 @@
 ghost use Rattle.std.specs.Prelude.{◌≡◌, ◌/◌, ◌%◌, [], ◌∷◌};
 ghost use Rattle.crc.specs.Crc.{bits, remainder, inverted, start, crc};
 ghost use Rattle.byte_lists.proofs.Digits.{length_octets, bytes_octets};
-ghost use Rattle.std.proofs.Common.{rules};
+ghost use Rattle.std.proofs.Common.{lit≤};
 
 use crate::table::byte_remainder;
 use integrity::Integrity;
@@ -50,7 +50,7 @@ impl Integrity for Crc32 {
 
     ghost check = { λ _ message. crc message };
 
-    ghost bounded = { Prim.search rules };
+    ghost bounded = { (lit≤ tt, lit≤ tt) };
 
     ghost fixed = { unfold crc in λ k message h. (length_octets 4 (inverted (remainder start message)), bytes_octets 4 (inverted (remainder start message))) };
 

@@ -1,10 +1,10 @@
 // DES under one key, as a block cipher.
-ghost use Rattle.std.specs.Prelude.{◌≡◌, ℕ, List, map};
+ghost use Rattle.std.specs.Prelude.{◌≡◌, ℕ, List, map, refl};
 ghost use Rattle.byte_lists.specs.Bytes.{Block as ByteBlock};
 ghost use Rattle.des.specs.Des.{encrypts, decrypts, des_encrypt, des_decrypt, SameButParity};
 ghost use Rattle.des_tables.specs.Bits.{bits};
 ghost use Rattle.des.specs.Permutation.{ciphered_permutes};
-ghost use Rattle.std.proofs.Common.{rules};
+ghost use Rattle.std.proofs.Common.{inl};
 
 use crate::octets::read;
 use crate::order::Order;
@@ -40,7 +40,7 @@ impl BlockCipher for Des {
 
     ghost dec = { λ d b. decrypts d.keys b };
 
-    ghost sizes = { Prim.search rules };
+    ghost sizes = { inl refl };
 
     ghost permutes = { λ d. ciphered_permutes (map (bits 48) d.keys) };
 

@@ -1,5 +1,5 @@
 -- Exclusive or of lists, and choices of bits, as lists.
-use Rattle.std.proofs.Common.{◌≡◌, ℕ, zero, suc, ◌+◌, ◌-◌, Bool, true, false, T, eqb, List, [], ◌∷◌, ◌++◌, length, get_or, take, drop, replicate, sym, refl, ap, ◌∙◌, arith, eqb→eq}
+use Rattle.std.proofs.Common.{◌≡◌, ℕ, zero, suc, ◌-◌, Bool, true, false, T, eqb, List, [], ◌∷◌, ◌++◌, length, get_or, take, drop, replicate, sym, refl, ap, ◌∙◌, arith, eqb→eq}
 use lib.Bits.{bit_xor, xor_assoc, xor_zero_r}
 use Rattle.byte_lists.specs.Bytes.{xors}
 use Rattle.byte_lists.proofs.Tables.{both, both_left, both_right}

@@ -1,12 +1,12 @@
 -- A sealed text opens to itself, and a string that opens is its text's only sealing: for every cipher and every check.
-use Rattle.std.proofs.Common.{◌≡◌, ℕ, ◌+◌, ◌%◌, ◌≤◌, Bool, true, false, cond, ◌&&◌, T, eqb, ◌⊎◌, List, length, Some, None, Option, sym, refl, ap, ◌∙◌, subst, arith, lit<, eq-eqb, eqb-true}
+use Rattle.std.proofs.Common.{◌≡◌, ℕ, ◌+◌, ◌%◌, ◌≤◌, Bool, true, false, cond, ◌&&◌, T, eqb, ◌⊎◌, List, length, Some, None, sym, refl, ap, ◌∙◌, subst, arith, lit<, eq-eqb, eqb-true}
 use Rattle.byte_lists.specs.Bytes.{Bytes, Block, small}
 use Rattle.byte_lists.proofs.Tables.{small_at, small_from}
 use Rattle.cipher.specs.Permutes.{Permutes}
 use Rattle.cipher.specs.Cbc.{cbc, uncbc}
 use Rattle.cipher.proofs.Undo.{Undone, cbc_undone, uncbc_undone}
 use Rattle.sealing.specs.Sealing.{Text, Good}
-use Rattle.frame.specs.Frame.{front, missing, frame, text_of}
+use Rattle.frame.specs.Frame.{front, frame, text_of}
 use Rattle.frame.proofs.Made.{bytes_front, length_frame, bytes_frame}
 use Rattle.frame.proofs.Filled.{filled, filled_short}
 use Rattle.frame.proofs.Laws.{read_again, only_frames}

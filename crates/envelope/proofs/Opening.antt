@@ -1,7 +1,7 @@
 -- What opening leaves, from what reading the frame says.
-use Rattle.std.proofs.Common.{◌≡◌, ℕ, ◌+◌, ◌-◌, ◌%◌, ◌≤◌, Bool, true, cond, ◌&&◌, eqb, List, ◌++◌, length, take, drop, Some, None, Option, sym, refl, ap, ◌∙◌, subst, arith, take-append-drop, eq-eqb}
+use Rattle.std.proofs.Common.{◌≡◌, ℕ, ◌+◌, ◌-◌, ◌%◌, ◌≤◌, cond, ◌&&◌, eqb, List, ◌++◌, length, take, drop, Some, None, Option, sym, refl, ap, ◌∙◌, subst, arith, take-append-drop, eq-eqb}
 use Rattle.std.proofs.lemmas.List.{drop_at, drop-take, take_at, take-take, length-take-le}
-use Rattle.byte_lists.specs.Bytes.{Bytes, small}
+use Rattle.byte_lists.specs.Bytes.{Bytes}
 use Rattle.byte_lists.proofs.Facts.{bytes_take}
 use Rattle.byte_lists.proofs.Tables.{small_from}
 use Rattle.cipher.specs.Cbc.{uncbc}

@@ -1,5 +1,5 @@
 -- A sealed string under a cipher and a mechanism: the text's frame, enciphered block by block.
-use Rattle.std.specs.Prelude.{ℕ, ◌%◌, cond, ◌&&◌, List, length, Some, None, Option, ◌==◌}
+use Rattle.std.specs.Prelude.{ℕ, ◌%◌, cond, ◌&&◌, List, length, None, Option, ◌==◌}
 use Rattle.byte_lists.specs.Bytes.{small}
 use Rattle.cipher.specs.Cbc.{cbc, uncbc}
 use Rattle.sealing.specs.Sealing.{Text}

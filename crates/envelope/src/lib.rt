@@ -23,7 +23,7 @@ pub fn seal_under<C: BlockCipher, I: Integrity>(
     requires least { 2 ≤ length body.now }
     requires most { length body.now ≤ 261 }
     requires room { 288 ≤ length out.old }
-    ensures { Seals (enciphered C.BlockCipher.size (C.BlockCipher.enc cipher.now) (I.Integrity.check mechanism.now) (text direction number body.now)) out.old out.new result }
+    ensures { Seals (enciphered C.size (C.enc cipher.now) (I.check mechanism.now) (text direction number body.now)) out.old out.new result }
 {
     let len = write_frame(mechanism, C::block_len(), direction, number, body, out);
     cbc_encrypt(cipher, &mut out[0..len], 0);
@@ -38,7 +38,7 @@ pub fn open_under<C: BlockCipher, I: Integrity>(
     len: usize,
 ) -> Option<Opened>
     requires { len ≤ length buffer.old }
-    ensures { OpensTo (deciphered C.BlockCipher.size I.Integrity.size (C.BlockCipher.dec cipher.now) (I.Integrity.check mechanism.now) (take len buffer.old)) len buffer.old buffer.new result }
+    ensures { OpensTo (deciphered C.size I.size (C.dec cipher.now) (I.check mechanism.now) (take len buffer.old)) len buffer.old buffer.new result }
 {
     if len % C::block_len() != 0 {
         return None;

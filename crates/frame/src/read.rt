@@ -49,8 +49,8 @@ fn stated_number(frame: &[u8]) -> u64
 
 // Whether the check behind the byte `end` is the one over what stands before it.
 fn is_checked<I: Integrity>(mechanism: &I, frame: &[u8], end: usize) -> bool
-    requires { end + size ≤ length frame.now }
-    ensures { result ≡ bytes_eq (check mechanism.now (take end frame.now)) (take size (drop end frame.now)) }
+    requires { end + I.size ≤ length frame.now }
+    ensures { result ≡ bytes_eq (I.check mechanism.now (take end frame.now)) (take I.size (drop end frame.now)) }
 {
     let tag = I::tag_len();
     let mut expected = [0u8; 16];
@@ -61,7 +61,7 @@ fn is_checked<I: Integrity>(mechanism: &I, frame: &[u8], end: usize) -> bool
 // Whether bytes are laid out as a frame.
 fn is_framed<I: Integrity>(mechanism: &I, block: usize, frame: &[u8]) -> bool
     requires { (1 ≤ block) × (block ≤ 16) }
-    ensures { result ≡ framed block size (check mechanism.now) frame.now }
+    ensures { result ≡ framed block I.size (I.check mechanism.now) frame.now }
 {
     if frame.len() < 11 {
         return false;
@@ -81,7 +81,7 @@ fn is_framed<I: Integrity>(mechanism: &I, block: usize, frame: &[u8]) -> bool
 // The text that a frame holds, where the bytes are one: its head, and where its body stands.
 pub fn read_frame<I: Integrity>(mechanism: &I, block: usize, frame: &[u8]) -> Option<Opened>
     requires { (1 ≤ block) × (block ≤ 16) }
-    ensures { result ≡ told (text_of block size (check mechanism.now) frame.now) }
+    ensures { result ≡ told (text_of block I.size (I.check mechanism.now) frame.now) }
 {
     if !is_framed(mechanism, block, frame) {
         return None;

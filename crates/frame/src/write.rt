@@ -26,10 +26,10 @@ fn put_front(direction: Direction, number: u64, body: &[u8], out: &mut [u8]) -> 
 
 // Writes the check over the first `end` bytes behind them, and answers where it ends.
 fn put_check<I: Integrity>(mechanism: &I, out: &mut [u8], end: usize) -> usize
-    requires { end + size ≤ length out.old }
-    ensures end { result ≡ end + size }
-    ensures long { length (check mechanism.now (take end out.old)) ≡ size }
-    ensures bytes { out.new ≡ take end out.old ++ (check mechanism.now (take end out.old) ++ drop (end + size) out.old) }
+    requires { end + I.size ≤ length out.old }
+    ensures end { result ≡ end + I.size }
+    ensures long { length (I.check mechanism.now (take end out.old)) ≡ I.size }
+    ensures bytes { out.new ≡ take end out.old ++ (I.check mechanism.now (take end out.old) ++ drop (end + I.size) out.old) }
 {
     let tag = I::tag_len();
     let mut value = [0u8; 16];
@@ -61,7 +61,7 @@ pub fn write_frame<I: Integrity>(
     requires room { 288 ≤ length out.old }
     ensures blocks { result % block ≡ 0 }
     ensures short { result ≤ 288 }
-    ensures frame { Seals (frame block (check mechanism.now) (text direction number body.now)) out.old out.new result }
+    ensures frame { Seals (frame block (I.check mechanism.now) (text direction number body.now)) out.old out.new result }
 {
     let end = put_front(direction, number, body, out);
     let checked = put_check(mechanism, out, end);

@@ -1,13 +1,13 @@
 -- What is written loads, and either side of a limit.
-use Rattle.std.proofs.Common.{◌≡◌, ℕ, ◌^◌, ◌<◌, ◌≤◌, Bool, true, false, cond, List, [], ◌∷◌, ◌++◌, length, Some, None, codes, decimal, Option, sym, refl, ap, ◌∙◌, arith, lit<}
+use Rattle.std.proofs.Common.{◌≡◌, ℕ, ◌^◌, ◌<◌, ◌≤◌, Bool, true, false, List, [], ◌∷◌, ◌++◌, Some, codes, decimal, refl, ap, ◌∙◌, arith, lit<}
 use Rattle.std.proofs.lemmas.Bool.{cond-true}
 use Rattle.numerals.specs.Hexadecimal.{hex}
 use Rattle.personalise.specs.Lines.{lines_of, ended}
 use Rattle.personalise.specs.Limits.{limit}
-use Rattle.personalise.specs.Load.{Lines, Loading, malformed, unset, loads, key_of, hexed, flag, limited, keyed, by_lines, loading}
-use Rattle.personalise.specs.Written.{text_of, shown_flag, with_masters, without_masters, written, Good, EitherSide, LoadedIfWritten}
+use Rattle.personalise.specs.Load.{Lines, malformed, unset, key_of, hexed, flag, limited, keyed, by_lines, loading}
+use Rattle.personalise.specs.Written.{text_of, shown_flag, with_masters, without_masters, Good, EitherSide, LoadedIfWritten}
 use Rattle.personalise.specs.declared.limit.Limit.{Limit}
-use Rattle.personalise.specs.declared.limit.Limit.TheVariants.{Unset, Malformed, Number}
+use Rattle.personalise.specs.declared.limit.Limit.TheVariants.{Unset, Number}
 use Rattle.personalise.proofs.Texts.{unbroken, AllUnbroken, lines_text, ended_text}
 use Rattle.personalise.proofs.Values.{unbroken_hex, unbroken_decimal, hexed_hex, limit_decimal}
 

@@ -1,10 +1,10 @@
 -- A text that loads is written so.
-use Rattle.std.proofs.Common.{◌≡◌, ℕ, Bool, true, false, cond, List, [], ◌∷◌, ◌++◌, length, codes, decimal, sym, refl, ap, ◌∙◌, arith, lit<}
+use Rattle.std.proofs.Common.{◌≡◌, ℕ, Bool, true, false, cond, List, [], ◌∷◌, ◌++◌, codes, decimal, sym, refl, ap, ◌∙◌, arith, lit<}
 use Rattle.numerals.specs.Hexadecimal.{hex}
 use Rattle.personalise.specs.Lines.{lines_of, ended, value, past, none}
 use Rattle.personalise.specs.Limits.{limit}
-use Rattle.personalise.specs.Load.{Lines, Loading, malformed, loads, hexed, flag, by_lines, loading}
-use Rattle.personalise.specs.Written.{text_of, six_lines, shown_flag, written, Good, WrittenIfLoaded}
+use Rattle.personalise.specs.Load.{Lines, Loading, malformed, loads, hexed, flag, by_lines}
+use Rattle.personalise.specs.Written.{text_of, six_lines, shown_flag, Good, WrittenIfLoaded}
 use Rattle.personalise.proofs.Texts.{text_lines}
 use Rattle.personalise.proofs.Parts.{value_past, bytes_read, flag_read, limit_read, AllRead, all_read}
 

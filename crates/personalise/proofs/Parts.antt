@@ -1,5 +1,5 @@
 -- What stood in a line, from what was read of it.
-use Rattle.std.proofs.Common.{◌≡◌, ℕ, suc, ◌^◌, ◌<◌, ◌≤◌, Bool, true, false, cond, ◌&&◌, ◌||◌, eqb, leb, List, [], ◌∷◌, ◌++◌, length, get_or, take, drop, Some, None, codes, decimal, Option, sym, refl, ap, ◌∙◌, arith}
+use Rattle.std.proofs.Common.{◌≡◌, ℕ, suc, ◌^◌, ◌<◌, ◌≤◌, Bool, true, false, cond, ◌&&◌, ◌||◌, eqb, leb, List, [], ◌∷◌, ◌++◌, length, take, drop, Some, None, decimal, Option, sym, refl, ap, ◌∙◌, arith}
 use Rattle.std.proofs.lemmas.Slice.Eq.{bytes_eq-Decides}
 use Rattle.std.proofs.lemmas.List.{take-append-drop}
 use Rattle.std.proofs.lemmas.Bool.{and_parts, leb-true, eqb-true, ne_eqb}
@@ -9,9 +9,9 @@ use Rattle.numerals.specs.Decimal.{numeral}
 use Rattle.numerals.specs.Hexadecimal.{hex, unhex, sized}
 use Rattle.numerals.proofs.HexWritten.{hex_unhex}
 use Rattle.numerals.proofs.Written.{decimal_numeral}
-use Rattle.personalise.specs.Lines.{behind, value, passed, past}
+use Rattle.personalise.specs.Lines.{value, passed, past}
 use Rattle.personalise.specs.Limits.{limit, numbered, malformed_limit}
-use Rattle.personalise.specs.Load.{Lines, Loading, malformed, unset, loads, key_of, hexed, bit, flag, limited, keyed}
+use Rattle.personalise.specs.Load.{Lines, malformed, unset, loads, key_of, hexed, bit, flag, limited, keyed}
 use Rattle.personalise.specs.Written.{shown_flag}
 use Rattle.personalise.specs.declared.limit.Limit.{Limit}
 use Rattle.personalise.specs.declared.limit.Limit.TheVariants.{Unset, Malformed, Number}

@@ -1,19 +1,18 @@
 -- What is written of a value, read again: the digits hold no LF, and say the value.
-use Rattle.std.proofs.Common.{◌≡◌, ℕ, zero, suc, ◌+◌, ◌/◌, ◌%◌, ◌^◌, ◌<◌, ◌≤◌, Bool, true, false, cond, not, ◌&&◌, eqb, ltb, leb, List, [], ◌∷◌, ◌++◌, length, Some, None, decimal, Option, sym, refl, ap, ◌∙◌, le_refl, arith}
+use Rattle.std.proofs.Common.{◌≡◌, ℕ, ◌/◌, ◌%◌, ◌^◌, ◌<◌, ◌≤◌, true, not, ◌&&◌, eqb, leb, List, [], ◌∷◌, length, Some, None, decimal, refl, ap, ◌∙◌, arith}
 use Rattle.std.proofs.lemmas.Fmt.{decimal_nonempty}
-use Rattle.std.proofs.lemmas.Bool.{and_parts, and_from, cond-true, le-leb, ne_eqb, not_from_false}
+use Rattle.std.proofs.lemmas.Bool.{and_parts, and_from, cond-true, le-leb}
 use Rattle.std.proofs.lemmas.Bool.Decides.{nat_tests}
 use Rattle.std.specs.Char.{is_ascii_digit}
 use Rattle.std.specs.Str.{all_ascii_digits}
 use Rattle.byte_lists.specs.Bytes.{Bytes}
 use Rattle.numerals.specs.Decimal.{numeral}
-use Rattle.numerals.specs.Hexadecimal.{shown, hex, unhex, sized}
+use Rattle.numerals.specs.Hexadecimal.{shown, hex, sized}
 use Rattle.numerals.proofs.HexWritten.{unhex_hex}
 use Rattle.numerals.proofs.Written.{digits_written, numeral_decimal}
 use Rattle.personalise.specs.Limits.{limit, numbered}
 use Rattle.personalise.specs.Load.{hexed}
-use Rattle.personalise.specs.declared.limit.Limit.{Limit}
-use Rattle.personalise.specs.declared.limit.Limit.TheVariants.{Unset, Malformed, Number}
+use Rattle.personalise.specs.declared.limit.Limit.TheVariants.{Number}
 use Rattle.personalise.proofs.Texts.{unbroken}
 
 shown_unbroken : (d : ℕ) → not (eqb (shown d) 10) ≡ true

@@ -1,5 +1,5 @@
 -- A limit, as its line says it: unset is no number.
-use Rattle.std.specs.Prelude.{◌≡◌, ℕ, ◌≤◌, Bool, true, false, List, [], ◌∷◌, Some, None, Option}
+use Rattle.std.specs.Prelude.{ℕ, ◌≤◌, Bool, true, false, List, [], ◌∷◌, Some, None, Option}
 use Rattle.numerals.specs.Decimal.{numeral}
 use Rattle.personalise.specs.declared.limit.Limit.{Limit}
 use Rattle.personalise.specs.declared.limit.Limit.TheVariants.{Unset, Malformed, Number}

@@ -1,5 +1,5 @@
 -- What the text of a key load means: six lines, in this order, each ended by LF.
-use Rattle.std.specs.Prelude.{ℕ, Bool, true, false, cond, ◌&&◌, ◌||◌, List, [], ◌∷◌, length, Some, None, codes, Option, ◌==◌, slice_index}
+use Rattle.std.specs.Prelude.{ℕ, Bool, true, false, cond, ◌||◌, List, length, Some, None, codes, Option, ◌==◌, slice_index}
 use Rattle.numerals.specs.Hexadecimal.{unhex, sized}
 use Rattle.personalise.specs.Lines.{lines_of, ended, value, past, none}
 use Rattle.personalise.specs.Limits.{limit, malformed_limit, number_of}

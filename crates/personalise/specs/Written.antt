@@ -2,7 +2,7 @@
 use Rattle.std.specs.Prelude.{◌≡◌, ℕ, ◌≤◌, Bool, true, false, List, [], ◌∷◌, ◌++◌, length, codes, decimal}
 use Rattle.byte_lists.specs.Bytes.{Bytes, Block}
 use Rattle.numerals.specs.Hexadecimal.{hex}
-use Rattle.personalise.specs.Load.{Lines, Loading, malformed, unset, loads, key_of, loading}
+use Rattle.personalise.specs.Load.{Lines, malformed, unset, loads, key_of, loading}
 
 -- Lines as text: an LF behind each.
 abbrev pub text_of : List (List ℕ) → List ℕ

@@ -1,5 +1,5 @@
 -- What the code finds for one cipher is what its suite asks for.
-use Rattle.std.proofs.Common.{◌≡◌, ℕ, ◌≤◌, cond, List, length, take, drop, Some, None, Option, sym, refl, ap, ◌∙◌, subst}
+use Rattle.std.proofs.Common.{◌≡◌, ℕ, ◌≤◌, cond, List, length, take, Some, None, Option, sym, refl, ap, ◌∙◌, subst}
 use Rattle.std.proofs.lemmas.List.{length-take-le}
 use Rattle.byte_lists.specs.Bytes.{Bytes, small}
 use Rattle.byte_lists.proofs.Facts.{bytes_take}

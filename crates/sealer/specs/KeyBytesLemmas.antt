@@ -4,7 +4,7 @@ use Rattle.std.proofs.Common.{inl, inr, lit≤}
 use Rattle.byte_lists.specs.Bytes.{Bytes, Block}
 use Rattle.byte_lists.proofs.Facts.{bytes_drop, bytes_take}
 use Rattle.byte_lists.proofs.Digits.{length_octets, bytes_octets}
-use Rattle.aes.specs.Cipher.{aes_encrypt, aes_decrypt}
+use Rattle.aes.specs.Cipher.{aes_encrypt}
 use Rattle.aes.proofs.Permutation.{aes_permutes}
 use Rattle.cipher.specs.Permutes.{Permutes}
 use Rattle.cipher.specs.Permuting.{after, turned}

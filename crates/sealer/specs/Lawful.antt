@@ -1,7 +1,7 @@
 -- Both sealers keep the laws of sealing.
-use Rattle.std.specs.Prelude.{◌≡◌, ℕ, ◌+◌, ◌≤◌, Bool, true, false, cond, T, List, length, Some, None, Option, refl}
+use Rattle.std.specs.Prelude.{◌≡◌, ℕ, ◌+◌, ◌≤◌, Bool, true, false, cond, T, List, length, Some, None, refl}
 use Rattle.std.proofs.Common.{ap, sym, ◌∙◌, subst, inl, arith, lit<}
-use Rattle.byte_lists.specs.Bytes.{Bytes, Block, small}
+use Rattle.byte_lists.specs.Bytes.{small}
 use Rattle.byte_lists.proofs.Tables.{small_at, small_from}
 use Rattle.crc.specs.Crc.{crc}
 use Rattle.frame.specs.Frame.{frame, front, text_of}
@@ -10,7 +10,6 @@ use Rattle.frame.proofs.Laws.{read_again, only_frames}
 use Rattle.frame.proofs.Made.{bytes_front, length_frame, bytes_frame}
 use Rattle.envelope.proofs.Laws.{sealed_opens, sealed_short, only_sealed}
 use Rattle.sealing.specs.Sealing.{Text, Good, Faithful}
-use Rattle.sealing.specs.declared.suite.Suite.{Suite}
 use Rattle.sealer.specs.KeyBytes.{block_of, enciphers, deciphers, check_len, checks}
 use Rattle.sealer.specs.Sealers.{real, bench}
 use Rattle.sealer.specs.KeyBytesLemmas.{cipher_permutes, cipher_widths, check_fixed, check_few, crc_fixed}

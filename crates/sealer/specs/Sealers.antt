@@ -1,5 +1,5 @@
 -- The real sealer and the bench sealer.
-use Rattle.std.specs.Prelude.{cond, List, Some, None}
+use Rattle.std.specs.Prelude.{cond, None}
 use Rattle.byte_lists.specs.Bytes.{small}
 use Rattle.crc.specs.Crc.{crc}
 use Rattle.sealing.specs.Sealing.{Sealing}

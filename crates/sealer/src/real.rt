@@ -31,7 +31,7 @@ fn seal_by<C: BlockCipher>(
     requires least { 2 ≤ length body.now }
     requires most { length body.now ≤ 261 }
     requires room { 288 ≤ length out.old }
-    ensures { Seals (enciphered size (enc cipher.now) (checks mechanism keys.now) (text direction number body.now)) out.old out.new result }
+    ensures { Seals (enciphered C.size (C.enc cipher.now) (checks mechanism keys.now) (text direction number body.now)) out.old out.new result }
 {
     match mechanism {
         Mechanism::Crc32 => seal_under(cipher, &Crc32, direction, number, body, out),
@@ -55,7 +55,7 @@ fn open_by<C: BlockCipher>(
     len: usize,
 ) -> Option<Opened>
     requires { len ≤ length buffer.old }
-    ensures { OpensTo (deciphered size (check_len mechanism) (dec cipher.now) (checks mechanism keys.now) (take len buffer.old)) len buffer.old buffer.new result }
+    ensures { OpensTo (deciphered C.size (check_len mechanism) (C.dec cipher.now) (checks mechanism keys.now) (take len buffer.old)) len buffer.old buffer.new result }
 {
     match mechanism {
         Mechanism::Crc32 => open_under(cipher, &Crc32, buffer, len),

@@ -1,5 +1,5 @@
 -- What a sealer means: under a suite and 40 key bytes a text has one sealed string, and that string opens to it.
-use Rattle.std.specs.Prelude.{◌≡◌, ℕ, ◌^◌, ◌<◌, ◌≤◌, List, length, Some, None, Option}
+use Rattle.std.specs.Prelude.{◌≡◌, ℕ, ◌^◌, ◌<◌, ◌≤◌, List, length, Some, Option}
 use Rattle.byte_lists.specs.Bytes.{Bytes, Block}
 use Rattle.sealing.specs.declared.suite.Suite.{Suite}
 use Rattle.sealing.specs.declared.suite.Direction.{Direction}

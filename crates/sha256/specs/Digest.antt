@@ -1,5 +1,5 @@
 -- SHA-256 of a list of bytes (FIPS 180-2, 5.1.1, 5.2 and 6.2).
-use Rattle.std.specs.Prelude.{ℕ, zero, suc, ◌-◌, ◌*◌, ◌/◌, ◌%◌, List, [], ◌∷◌, ◌++◌, length, take, drop, replicate}
+use Rattle.std.specs.Prelude.{ℕ, zero, suc, ◌-◌, ◌*◌, ◌/◌, ◌%◌, List, ◌∷◌, ◌++◌, length, take, drop, replicate}
 use Rattle.std.specs.List.{flat_map}
 use Rattle.byte_lists.specs.Numbers.{octets}
 use Rattle.compression.specs.declared.letters.Eight.{Eight}

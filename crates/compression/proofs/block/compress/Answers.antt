@@ -1,5 +1,5 @@
 use Rattle.std.proofs.Common.{ap, ◌∙◌}
-use Rattle.compression.specs.Compression.{words, extended, rounds, sums, compressed}
+use Rattle.compression.specs.Compression.{extended, rounds, sums, compressed}
 use Rattle.compression.proofs.block.compress.Goals as goal
 
 pub returns : goal.returns

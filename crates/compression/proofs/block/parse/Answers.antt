@@ -1,4 +1,4 @@
-use Rattle.std.proofs.Common.{◌≡◌, ℕ, take, subst, arith}
+use Rattle.std.proofs.Common.{◌≡◌, take, subst, arith}
 use Rattle.compression.specs.Compression.{words}
 use Rattle.compression.proofs.Steps.{words_none, words_more}
 use Rattle.compression.proofs.block.parse.Goals as goal

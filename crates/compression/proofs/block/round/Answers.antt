@@ -1,4 +1,3 @@
-use Rattle.std.proofs.Common.{◌≡◌}
 use Rattle.compression.specs.Compression.{round_of}
 use Rattle.compression.proofs.block.round.Goals as goal
 

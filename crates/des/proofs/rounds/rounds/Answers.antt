@@ -8,7 +8,7 @@ use Rattle.des.proofs.Turning.{rounds_none, rounds_more, rounds_all, length_orde
 use Rattle.des.proofs.rounds.rounds.Goals as goal
 
 pub loop-i-init : goal.loop-i-init
-loop-i-init c = (omega arith, omega arith, ap (turns mixed (ordered c.args.order (map (bits 48) c.args.keys.now))) (rounds_none c.args.start _ _ c.cut_block.ensures.left c.cut_block.ensures.right))
+loop-i-init c = (omega arith, omega arith, ap (turns mixed (ordered c.args.order (map (bits 48) c.args.keys.now))) (rounds_none c.args.start _ _ c.cut-block.ensures.left c.cut-block.ensures.right))
 
 pub loop-i-preserved : goal.loop-i-preserved
 loop-i-preserved c =

@@ -1,4 +1,4 @@
-use Rattle.std.proofs.Common.{◌≡◌, sym, ◌∙◌}
+use Rattle.std.proofs.Common.{sym, ◌∙◌}
 use Rattle.frame.proofs.Laws.{not_framed, not_directed, told_text}
 use Rattle.frame.proofs.read.read_frame.Goals as goal
 
@@ -7,7 +7,7 @@ returns-then-not-is_framed g c = sym (not_framed _ _ _ c.args.frame.now (sym c.i
 
 pub returns-in_err-direction : goal.returns-in_err-direction
 returns-in_err-direction g c =
-    c.from-residual.ensures
+    c.from_residual.ensures
     ∙ sym (not_directed _ _ _ c.args.frame.now (sym c.if-not-is_framed.ensures) (sym c.of.ensures ∙ c.in_err-direction.was))
 
 pub returns : goal.returns

@@ -1,6 +1,5 @@
-use Rattle.std.proofs.Common.{◌≡◌, ℕ, ◌+◌, ◌-◌, ◌%◌, ◌≤◌, List, ◌++◌, length, take, drop, replicate, sym, refl, ap, ◌∙◌, arith, length-append}
+use Rattle.std.proofs.Common.{◌≡◌, ℕ, ◌+◌, ◌-◌, ◌%◌, ◌≤◌, List, ◌++◌, length, take, drop, replicate, sym, ap, ◌∙◌, arith, length-append}
 use Rattle.std.proofs.lemmas.List.{take_at, length-replicate}
-use Rattle.byte_lists.proofs.Digits.{length_octets}
 use Rattle.byte_lists.proofs.Written.{put_more}
 use Rattle.sealing.specs.Sealing.{Text, text}
 use Rattle.frame.specs.Frame.{front, frame, missing}

@@ -1,4 +1,4 @@
-use Rattle.std.proofs.Common.{◌≡◌, sym, ◌∙◌, arith}
+use Rattle.std.proofs.Common.{sym, ◌∙◌, arith}
 use Rattle.personalise.specs.Lines.{lines_of}
 use Rattle.personalise.proofs.Cuts.{begun_none, found_at, goes_on, none_left}
 use Rattle.personalise.proofs.reader.line_end.Goals as goal

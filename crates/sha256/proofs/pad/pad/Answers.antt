@@ -1,4 +1,4 @@
-use Rattle.std.proofs.Common.{◌+◌, ◌-◌, refl, ◌∙◌, arith}
+use Rattle.std.proofs.Common.{◌+◌, ◌-◌, ◌∙◌, arith}
 use Rattle.sha256.proofs.Padding.{padding_put}
 use Rattle.sha256.proofs.pad.pad.Goals as goal
 

@@ -11,5 +11,5 @@ returns c =
     let len : ℕ = c.args.len in
     let from : len - 0 ≡ len = omega arith in
     let bytes : Bytes c.args.buffer.now = bytes_of _ (λ i. search rules) in
-    read_is_opened len c.args.buffer.now c.requires c.args.-suite c.args.-keys.now c.read_frame.result bytes
+    read_is_opened len c.args.buffer.now c.requires c.args._suite c.args._keys.now c.read_frame.result bytes
     (c.read_frame.ensures ∙ ap (λ j. told (text_of 8 4 crc (take j c.args.buffer.now))) from)

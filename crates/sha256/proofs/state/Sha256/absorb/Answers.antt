@@ -1,4 +1,4 @@
-use Rattle.std.proofs.Common.{◌≡◌, ℕ, ◌+◌, ◌-◌, ◌%◌, ◌^◌, length, sym, refl, arith}
+use Rattle.std.proofs.Common.{◌≡◌, ℕ, ◌+◌, ◌-◌, ◌%◌, length, refl, arith}
 use Rattle.sha256.proofs.Taking.{counted_more, goes_on}
 use Rattle.sha256.proofs.state.Sha256.absorb.Goals as goal
 

@@ -1,6 +1,5 @@
-use Rattle.std.proofs.Common.{◌≡◌, ℕ, ◌+◌, ◌-◌, ◌/◌, List, ◌++◌, length, take, drop, sym, refl, ap, ◌∙◌, subst, arith}
-use Rattle.sha256.specs.Digest.{digest, written, hashed, padding, padded}
-use Rattle.sha256.specs.Took.{Took}
+use Rattle.std.proofs.Common.{◌≡◌, ◌-◌, ◌/◌, ◌++◌, length, take, ap, ◌∙◌, arith}
+use Rattle.sha256.specs.Digest.{digest, written, hashed, padding}
 use Rattle.sha256.proofs.Padding.{padding_low}
 use Rattle.sha256.proofs.state.Sha256.finish.Goals as goal
 
