@@ -1,6 +1,6 @@
 -- Two runs of sixty calls that were drawn at random, with the answers that a model in another language gave.
 use Rattle.std.specs.Prelude.{List, [], ◌∷◌}
-use Rattle.law.specs.Calls.{Call, load, power_on, power_off, command, Answer, not_taken, powered, loaded, refused_host, replied}
+use Rattle.law.specs.Calls.{Call, load, power_on, power_off, command, Answer, powered, loaded, refused_host, replied}
 use Rattle.worked.specs.Bench.{bytes_in}
 
 abbrev pub mixed_calls : List Call
