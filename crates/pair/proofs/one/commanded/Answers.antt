@@ -6,8 +6,8 @@ pub returns : goal.returns
 returns g c =
     let call = c.args.call in
     let fill = c.args.fill in
-    let lent = c.deref-mut.result.now in
-    let work = c.deref-mut-2.result.now in
+    let lent = c.deref_mut.result.now in
+    let work = c.deref_mut-2.result.now in
     let written = c.command-result.new.reply in
     let after = c.command-result.new.work in
     let filled : lent ≡ replicate call.buffer fill = search rules in
