@@ -1,5 +1,5 @@
 // Associations: a master, a connection and a session, and the codes alone that they contain.
-use crate::card::{Host, new_card, send};
+use crate::bench_card::{Host, new_card, send};
 use crate::script::{CONTAINER, Channel, Line, Rehearsal};
 use crate::suite::AES;
 use crate::times::{Times, nanoseconds};

@@ -1,5 +1,5 @@
 // Fares: a sealed command in, its sealed answer out, and the openings and sealings alone.
-use crate::card::{Host, send};
+use crate::bench_card::{Host, send};
 use crate::script::{Channel, Rehearsal};
 use crate::suite::Case;
 use crate::times::{Times, nanoseconds};

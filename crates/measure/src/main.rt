@@ -2,7 +2,7 @@
 #![tactic(auto)]
 
 mod association;
-mod card;
+mod bench_card;
 mod fare;
 mod script;
 mod sizes;

@@ -1,5 +1,5 @@
 // Associations between a terminal and a card, and the commands that they took.
-use crate::card::{Host, KEY, new_card, send};
+use crate::bench_card::{Host, KEY, new_card, send};
 use anyhow::anyhow;
 use card::Powered;
 use fares::FareCounter;
@@ -46,7 +46,7 @@ impl Rehearsal {
     pub fn new(heap: Global) -> anyhow::Result<Rehearsal> {
         let load = match read(KEY) {
             Ok(load) => load,
-            Err(refusal) => return Err(refusal.words().into()),
+            Err(refusal) => return Err(anyhow!(refusal.words())),
         };
         Ok(Rehearsal {
             heap,

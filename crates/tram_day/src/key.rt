@@ -33,7 +33,7 @@ pub fn load(rt: &HostRuntime, cards: &mut Cards) -> anyhow::Result<KeyLoad> {
     let text = text(rt)?;
     let load = match read(text.as_slice()) {
         Ok(load) => load,
-        Err(refusal) => return Err(refusal.words().into()),
+        Err(refusal) => return Err(anyhow!(refusal.words())),
     };
     println!(rt; "The key is loaded into both cards, left a fare counter, right a record file")?;
     show_limits(rt, &load)?;

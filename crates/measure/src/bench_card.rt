@@ -1,4 +1,5 @@
 // The card that is measured: a fare counter behind the real sealer.
+use anyhow::anyhow;
 use card::{Off, Powered};
 use fares::FareCounter;
 use sealer::RealSealer;
@@ -29,7 +30,7 @@ pub fn new_card() -> anyhow::Result<Powered<RealSealer, FareCounter>> {
     let mut card = Off::new(RealSealer, FareCounter::new(), true);
     match card.load(KEY) {
         Ok(()) => Ok(card.power_on()),
-        Err(refusal) => Err(refusal.words().into()),
+        Err(refusal) => Err(anyhow!(refusal.words())),
     }
 }
 
