@@ -1,6 +1,6 @@
 // CMAC, and its check of a message.
 ghost use Rattle.std.specs.Prelude.{◌≡◌, ℕ, List};
-ghost use Rattle.std.proofs.Common.{subst, rules};
+ghost use Rattle.std.proofs.Common.{subst, lit≤};
 ghost use Rattle.cmac.specs.Cmac.{before_last, cmac};
 ghost use Rattle.byte_lists.specs.Bytes.{Block};
 ghost use Rattle.cmac.specs.Checks.{block_cmac};
@@ -41,7 +41,7 @@ impl<C: Wide> Integrity for Cmac<C> {
 
     ghost check = { λ k message. cmac (C.BlockCipher.enc k.cipher) message };
 
-    ghost bounded = { Prim.search rules };
+    ghost bounded = { (lit≤ tt, lit≤ tt) };
 
     ghost fixed = { λ k message h.
         let E : List ℕ → List ℕ = C.BlockCipher.enc k.cipher in

@@ -1,5 +1,5 @@
 -- The keys that are cut from expanded material are 40 bytes.
-use Rattle.std.proofs.Common.{ℕ, ◌-◌, List, ◌++◌, take, drop, length-drop, length-take}
+use Rattle.std.proofs.Common.{ℕ, List, ◌++◌, take, drop, length-drop, length-take}
 use Rattle.byte_lists.specs.Bytes.{Block}
 use Rattle.byte_lists.proofs.Facts.{bytes_take, bytes_drop}
 use Rattle.law.specs.Associations.{Hashing, Sized, Master, nonce_of, material, sealer_keys}

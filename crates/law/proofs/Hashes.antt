@@ -1,5 +1,5 @@
 -- The expansion has 64 bytes.
-use Rattle.std.proofs.Common.{ℕ, ◌+◌, List, [], ◌∷◌, ◌++◌, length-append}
+use Rattle.std.proofs.Common.{ℕ, List, [], ◌∷◌, ◌++◌, length-append}
 use Rattle.byte_lists.specs.Bytes.{Block}
 use Rattle.byte_lists.proofs.Facts.{bytes_append}
 use Rattle.hmac.specs.Hmac.{hmac}

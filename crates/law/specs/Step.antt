@@ -1,5 +1,5 @@
 -- The card's meaning: what each call answers, and what it makes of the card.
-use Rattle.std.specs.Prelude.{ℕ, suc, ◌+◌, ◌*◌, min, Bool, true, false, cond, not, ◌||◌, List, [], ◌∷◌, ◌++◌, length, set, Some, None, Option, ◌==◌, nat_le, nat_lt, slice_index_or, slice_set}
+use Rattle.std.specs.Prelude.{ℕ, suc, ◌+◌, ◌*◌, min, Bool, true, false, cond, not, ◌||◌, List, [], ◌∷◌, ◌++◌, length, Some, None, Option, ◌==◌, nat_le, nat_lt, slice_index_or, slice_set}
 use Rattle.sealing.specs.declared.suite.Direction.TheVariants.{Reply}
 use Rattle.sealing.specs.Sealing.{Sealing, text}
 use Rattle.application.specs.Acts.{Acts}

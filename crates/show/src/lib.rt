@@ -42,7 +42,7 @@ pub fn joined(heap: Global, bytes: &[u8]) -> Result<String, AllocError> {
 // The bytes that pairs of capital digits write, or a line alone for none; nothing where the text is neither.
 pub fn unhex(heap: Global, text: &str) -> Result<Option<Vec<u8>>, AllocError> {
     let digits = text.as_bytes();
-    if digits == b"-" {
+    if digits == b"-".as_slice() {
         return Ok(Some(Vec::new(heap)));
     }
     let mut bytes = vec![in heap; 0u8; digits.len() / 2]?;
@@ -71,7 +71,7 @@ mod tests {
     #[test]
     fn digits_are_read(rt: HostRuntime) -> Result<(), Fail> {
         let heap = rt.alloc();
-        assert!(rt; unhex(heap, "0AFF")?.ok_or("refused")?.as_slice() == &[0x0A, 0xFF]);
+        assert!(rt; unhex(heap, "0AFF")?.ok_or("refused")?.as_slice() == [0x0A, 0xFF].as_slice());
         assert!(rt; unhex(heap, "-")?.ok_or("refused")?.is_empty());
         assert!(rt; unhex(heap, "0a")?.is_none());
         assert!(rt; unhex(heap, "0AF")?.is_none());

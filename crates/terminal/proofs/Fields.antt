@@ -4,7 +4,7 @@ use Rattle.std.proofs.lemmas.List.{length-append, take_at, take_all, append_asso
 use Rattle.replies.specs.Reply.{tagged, inside}
 use Rattle.replies.specs.declared.reply.MasterReply.{MasterReply}
 use Rattle.replies.specs.declared.reply.ConnectionReply.{ConnectionReply}
-use Rattle.replies.specs.declared.reply.Reply.TheVariants.{Master, Connection}
+use Rattle.replies.specs.declared.reply.Reply.TheVariants.{Connection}
 use Rattle.terminal.specs.Heard.{IsMaster, IsConnection}
 
 pub master_long : (bs : List ℕ) (m : MasterReply) → IsMaster bs m → length bs ≡ 23

@@ -1,5 +1,5 @@
 -- What was opened, against what the terminal takes for an answer.
-use Rattle.std.proofs.Common.{◌≡◌, ℕ, ◌+◌, ◌≤◌, Bool, true, false, cond, ◌&&◌, eqb, List, IfSome, Some, None, Option, sym, refl, ◌∙◌}
+use Rattle.std.proofs.Common.{◌≡◌, ℕ, ◌+◌, ◌≤◌, Bool, true, false, cond, ◌&&◌, eqb, List, IfSome, Some, None, Option, refl, ◌∙◌}
 use Rattle.std.specs.Option.{option_map}
 use Rattle.sealing.specs.declared.sealer.Opened.{Opened}
 use Rattle.sealing.specs.Sealing.{Text}

@@ -1,6 +1,5 @@
 -- What a terminal takes for the answer to its command.
 use Rattle.std.specs.Prelude.{ℕ, Bool, true, false, cond, ◌&&◌, List, take, drop, Some, None, Option, ◌==◌}
-use Rattle.std.specs.Option.{option_map}
 use Rattle.sealing.specs.declared.sealer.Opened.{Opened}
 use Rattle.sealing.specs.declared.suite.Direction.{Direction}
 use Rattle.sealing.specs.declared.suite.Direction.TheVariants.{Command, Reply}

@@ -1,7 +1,6 @@
 use Rattle.std.proofs.Common.{[], ◌∷◌, ◌++◌, take, refl, ap, ◌∙◌}
 use Rattle.std.proofs.lemmas.List.{append_assoc}
 use Rattle.hmac.specs.Hmac.{hmac}
-use Rattle.terminal.specs.Macs.{agreement}
 use Rattle.terminal.proofs.mac.agreement_mac.Goals as goal
 
 pub returns : goal.returns

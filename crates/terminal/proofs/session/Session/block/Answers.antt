@@ -1,4 +1,4 @@
-use Rattle.std.proofs.Common.{◌≡◌, ◌≤◌, length, IfSome, sym, subst, arith}
+use Rattle.std.proofs.Common.{◌≤◌, length, IfSome, sym, subst, arith}
 use Rattle.replies.specs.Blocks.{Part}
 use Rattle.terminal.proofs.Short.{cut_short}
 use Rattle.terminal.proofs.session.Session.block.Goals as goal
