@@ -1,6 +1,5 @@
 -- The steps of each command come to what the law says.
-use Rattle.std.proofs.Common.{◌≡◌, ℕ, Bool, true, false, cond, List, [], ◌∷◌, ◌++◌, Some, None, Ok, Err, Option, sym, refl, ap, ◌∙◌}
-use Rattle.apdu.specs.declared.status.Status.TheVariants.{NotPossible, NotNow, NoRoom, NoSuchIdentifier, NotAuthentic, LimitPassed}
+use Rattle.std.proofs.Common.{◌≡◌, ℕ, Bool, true, false, cond, List, Some, None, Option, refl}
 use Rattle.sealing.specs.declared.suite.Suite.{Suite}
 use Rattle.objects.specs.declared.request.EndRequest.{EndRequest}
 use Rattle.objects.specs.declared.request.Named.{Named}
@@ -10,8 +9,7 @@ use Rattle.law.specs.Rows.{At, found}
 use Rattle.law.specs.Associations.{Hashing, Key, Master, common}
 use Rattle.law.specs.Tables.{Connection, Tables}
 use Rattle.law.specs.Associate.{has_ref, has_msa, has_csa, Verdict}
-use Rattle.associate.specs.Checks.{unless}
-use Rattle.associate.specs.Outcome.{Outcome, done, decided, outcome}
+use Rattle.associate.specs.Outcome.{decided, outcome}
 use Rattle.associate.specs.Steps.{upon, master_steps, connection_steps, start_steps, end_master_steps, end_connection_steps, end_steps}
 
 upon_unless : {X Y : Type 0} (b : Bool) (x : X) (e : Y) (f : X → Y) → upon (cond b None (Some x)) e f ≡ cond b e (f x)

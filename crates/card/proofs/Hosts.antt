@@ -1,12 +1,12 @@
 -- A command by the host's lengths.
-use Rattle.std.proofs.Common.{◌≡◌, ℕ, ◌≤◌, Bool, true, false, cond, not, ◌||◌, eqb, ltb, List, ◌++◌, length, take, drop, Some, None, Option, sym, refl, ap, ◌∙◌, subst, arith}
+use Rattle.std.proofs.Common.{◌≡◌, ℕ, ◌≤◌, Bool, true, false, cond, List, ◌++◌, length, take, drop, Some, None, sym, refl, ap, ◌∙◌, arith}
 use Rattle.std.proofs.lemmas.List.{take_at, drop_at, length-append, length-drop}
 use Rattle.sealing.specs.Sealing.{Sealing}
 use Rattle.apdu.specs.Reply.{fronted}
 use Rattle.law.specs.Associations.{Hashing}
-use Rattle.law.specs.Calls.{refused_host, replied}
+use Rattle.law.specs.Calls.{refused_host}
 use Rattle.law.specs.Request.{request}
-use Rattle.law.specs.Step.{Core, Move, does, requests, commands_at}
+use Rattle.law.specs.Step.{Core, does, requests, commands_at}
 use Rattle.law.proofs.Rows.{no_some, some_same}
 use Rattle.card.specs.declared.refusal.HostRefusal.{HostRefusal}
 use Rattle.card.specs.declared.refusal.HostRefusal.TheVariants.{ShortMemory, RandomBytes}

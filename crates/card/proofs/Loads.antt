@@ -1,5 +1,5 @@
 -- What a load does, by what its text says.
-use Rattle.std.proofs.Common.{◌≡◌, ℕ, Bool, true, false, cond, is_some as option_is_some, Some, None, Ok, Err, Option, sym, refl, ap, ◌∙◌}
+use Rattle.std.proofs.Common.{◌≡◌, ℕ, Bool, true, false, cond, is_some as option_is_some, Some, None, Err, Option, sym, refl, ap, ◌∙◌}
 use Rattle.std.specs.Option.{option_map}
 use Rattle.personalise.specs.declared.refusal.Refusal.{Refusal}
 use Rattle.personalise.specs.declared.refusal.Refusal.TheVariants.{Malformed, Unset}

@@ -11,7 +11,6 @@ use Rattle.replies.specs.Blocks.{Part, block_of}
 use Rattle.request.specs.View.{kind_of}
 use Rattle.request.specs.declared.kind.Kind.{Kind}
 use Rattle.law.specs.Calls.{replied}
-use Rattle.law.specs.Step as law
 use Rattle.law.specs.Step.{Move, does, given, put, waits}
 use Rattle.manage.specs.declared.pending.Pending.TheVariants as pending
 use Rattle.manage.specs.declared.card_core.Core.{Core}

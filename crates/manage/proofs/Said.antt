@@ -1,5 +1,5 @@
 -- Moves that are a status word alone, and moves that are another by a check's outcome.
-use Rattle.std.proofs.Common.{◌≡◌, ℕ, List, [], ◌++◌, length, Some, None, Option, sym, refl, ap, ◌∙◌}
+use Rattle.std.proofs.Common.{◌≡◌, ℕ, List, [], ◌++◌, length, Some, None, sym, refl, ap, ◌∙◌}
 use Rattle.apdu.specs.Command.{Shape, bare, le, alone, both}
 use Rattle.apdu.specs.Reply.{reply, fronted}
 use Rattle.apdu.specs.declared.status.Status.{Status}

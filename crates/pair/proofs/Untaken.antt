@@ -1,5 +1,5 @@
 -- A call that is not taken leaves the card as it is, and lends no memory.
-use Rattle.std.proofs.Common.{◌≡◌, ℕ, Bool, true, false, List, [], vec_items, sym, refl, ap, ◌∙◌, arith}
+use Rattle.std.proofs.Common.{◌≡◌, ℕ, true, false, List, [], vec_items, sym, refl, ap, ◌∙◌, arith}
 use Rattle.sealing.specs.Sealing.{Sealing}
 use Rattle.application.specs.Acts.{Acts}
 use Rattle.law.specs.Hashes.{keyed}

@@ -1,5 +1,5 @@
 -- Which answers are kept when rows of connections change.
-use Rattle.std.proofs.Common.{◌≡◌, ℕ, zero, suc, Bool, true, false, cond, ◌⊎◌, List, [], ◌∷◌, map, set, Some, None, Option, sym, refl, ap, ◌∙◌, inl, inr}
+use Rattle.std.proofs.Common.{◌≡◌, ℕ, zero, suc, Bool, false, cond, ◌⊎◌, List, [], ◌∷◌, map, set, Some, None, Option, sym, refl, ap, ◌∙◌, inl, inr}
 use Rattle.std.specs.Option.{option_map}
 use Rattle.law.specs.Step.{kept, holds, holds_session}
 use Rattle.session.specs.declared.state.Talk.{Talk}

@@ -1,5 +1,5 @@
 -- Rows that are freed with what they rest on, as the rules see them.
-use Rattle.std.proofs.Common.{◌≡◌, ℕ, Bool, true, false, cond, not, eqb, ◌⊎◌, List, [], ◌∷◌, map, get_or, is_some, Some, None, Option, sym, refl, ap, ◌∙◌, subst, inl, inr}
+use Rattle.std.proofs.Common.{◌≡◌, ℕ, Bool, true, false, cond, not, eqb, ◌⊎◌, List, map, get_or, is_some, Some, None, Option, sym, refl, ap, ◌∙◌, subst, inl, inr}
 use lib.ListN.{get_or-map}
 use Rattle.std.specs.Option.{option_map}
 use Rattle.law.specs.Associations as made

@@ -1,5 +1,5 @@
 -- The tables as the rules see them after rows changed.
-use Rattle.std.proofs.Common.{◌≡◌, ℕ, List, map, get_or, set, Some, None, Option, sym, refl, ap, ◌∙◌}
+use Rattle.std.proofs.Common.{◌≡◌, ℕ, List, map, get_or, set, Some, None, Option, ap, ◌∙◌}
 use lib.Seq.{map-set}
 use Rattle.std.specs.Option.{option_map}
 use Rattle.law.specs.Associations as made

@@ -1,5 +1,5 @@
 -- A row after one of its fields changed, and the tables after something was entered.
-use Rattle.std.specs.Prelude.{ℕ, ◌+◌, List, Some, Option, slice_set}
+use Rattle.std.specs.Prelude.{ℕ, ◌+◌, Some, slice_set}
 use Rattle.session.specs.declared.state.Session.{Session}
 use Rattle.law.specs.Associations as made
 use Rattle.law.specs.Tables as law

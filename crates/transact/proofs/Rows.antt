@@ -1,5 +1,5 @@
 -- The core after one connection's row was put.
-use Rattle.std.proofs.Common.{◌≡◌, ℕ, Bool, false, List, sym, refl, ap, ◌∙◌, subst}
+use Rattle.std.proofs.Common.{◌≡◌, ℕ, false, sym, ap, ◌∙◌, subst}
 use Rattle.apdu.specs.declared.status.Status.{Status}
 use Rattle.tables.specs.declared.rows.Tables.{Tables}
 use Rattle.tables.specs.View.{tables_of, Keeps}

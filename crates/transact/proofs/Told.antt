@@ -1,7 +1,6 @@
 -- What the card says of an event, told from what the session made of it.
 use Rattle.std.proofs.Common.{◌≡◌, ℕ, Bool, true, false, cond, eqb, List, [], map, get_or, Some, None, Option, sym, refl, ap, ◌∙◌}
 use lib.ListN.{get_or-map}
-use Rattle.std.specs.Option.{option_map}
 use Rattle.sealing.specs.Sealing.{Sealing}
 use Rattle.application.specs.Acts.{Acts}
 use Rattle.apdu.specs.Command.{Shape, bare, le, alone, both}

@@ -1,4 +1,4 @@
-use Rattle.std.proofs.Common.{◌≡◌, Some, sym, ap, ◌∙◌}
+use Rattle.std.proofs.Common.{Some, sym, ap, ◌∙◌}
 use Rattle.objects.specs.Asked.{asked_master, seen_master}
 use Rattle.law.specs.Hashes.{keyed}
 use Rattle.tables.specs.View.{tables_of}

@@ -2,7 +2,6 @@ use Rattle.std.proofs.Common.{◌≡◌, [], ◌∷◌, ◌++◌, take, drop, ap
 use Rattle.std.proofs.lemmas.List.{append_assoc}
 use Rattle.hmac.specs.Hmac.{hmac}
 use Rattle.sealing.specs.Suites.{cipher_byte, mechanism_byte}
-use Rattle.associate.specs.Said.{said}
 use Rattle.associate.proofs.confirm.connection_mac.Goals as goal
 
 pub returns : goal.returns

@@ -1,4 +1,4 @@
-use Rattle.std.proofs.Common.{◌≡◌, [], get_or, None, sym, ap, ◌∙◌, subst}
+use Rattle.std.proofs.Common.{[], get_or, None, sym, subst}
 use Rattle.sealing.specs.Sealing.{Sealing}
 use Rattle.apdu.specs.View.{shape_of}
 use Rattle.apdu.specs.declared.status.Status.{Status}

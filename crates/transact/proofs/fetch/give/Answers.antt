@@ -1,4 +1,4 @@
-use Rattle.std.proofs.Common.{◌≡◌, ℕ, ◌≤◌, true, length, sym, ◌∙◌, arith}
+use Rattle.std.proofs.Common.{◌≡◌, ℕ, ◌≤◌, true, length, sym, arith}
 use Rattle.std.proofs.lemmas.Bool.{leb-true}
 use Rattle.apdu.specs.Command.{Shape, bare, le, alone, both}
 use Rattle.apdu.specs.View.{shape_of}

@@ -1,4 +1,4 @@
-use Rattle.std.proofs.Common.{◌≡◌, get_or, None, sym, ap, ◌∙◌}
+use Rattle.std.proofs.Common.{get_or, None, sym, ap, ◌∙◌}
 use Rattle.apdu.specs.View.{shape_of}
 use Rattle.tables.specs.View.{connections_of}
 use Rattle.transact.specs.View.{ended}

@@ -1,4 +1,4 @@
-use Rattle.std.proofs.Common.{◌≡◌, ℕ, true, List, sym, refl, ap}
+use Rattle.std.proofs.Common.{ℕ, true, List, sym, ap}
 use Rattle.tables.proofs.Kept.{all_kept}
 use Rattle.manage.specs.View.{core_as}
 use Rattle.law.specs.Calls.{powered}

@@ -1,4 +1,4 @@
-use Rattle.std.proofs.Common.{◌≡◌, ℕ, get_or, None, sym, ap, ◌∙◌}
+use Rattle.std.proofs.Common.{ℕ, get_or, None, sym, ap, ◌∙◌}
 use Rattle.apdu.specs.View.{shape_of}
 use Rattle.tables.specs.View.{connections_of}
 use Rattle.manage.specs.View.{core_of}

@@ -1,4 +1,4 @@
-use Rattle.std.proofs.Common.{◌≡◌, ℕ, true, not, ◌||◌, eqb, ltb, List, length, take, sym, refl, ap, ◌∙◌, arith}
+use Rattle.std.proofs.Common.{ℕ, not, ◌||◌, eqb, ltb, List, length, sym, refl, ap, ◌∙◌}
 use Rattle.tables.proofs.Kept.{all_kept}
 use Rattle.manage.specs.View.{core_of}
 use Rattle.law.specs.Hashes.{keyed}

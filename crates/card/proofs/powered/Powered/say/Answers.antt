@@ -1,4 +1,4 @@
-use Rattle.std.proofs.Common.{◌≡◌, [], sym, refl, ap, ◌∙◌}
+use Rattle.std.proofs.Common.{[]}
 use Rattle.apdu.specs.Reply.{reply}
 use Rattle.transact.proofs.Told.{unchanged}
 use Rattle.card.proofs.powered.Powered.say.Goals as goal

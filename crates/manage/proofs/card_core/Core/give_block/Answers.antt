@@ -1,7 +1,7 @@
-use Rattle.std.proofs.Common.{◌≡◌, ℕ, length, sym, ap, ◌∙◌, arith}
+use Rattle.std.proofs.Common.{◌≡◌, length, ap, arith}
 use Rattle.std.proofs.lemmas.List.{length-take}
 use Rattle.buffer.specs.Held.{held}
-use Rattle.replies.specs.Blocks.{Part, seen, block_of}
+use Rattle.replies.specs.Blocks.{seen, block_of}
 use Rattle.manage.proofs.Gives.{gives, block_length}
 use Rattle.manage.proofs.card_core.Core.give_block.Goals as goal
 

@@ -1,4 +1,4 @@
-use Rattle.std.proofs.Common.{◌≡◌, List, ◌++◌, take, sym, ap, ◌∙◌}
+use Rattle.std.proofs.Common.{take}
 use Rattle.apdu.specs.View.{shape_of}
 use Rattle.apdu.specs.declared.status.Status.TheVariants.{WrongLength}
 use Rattle.objects.specs.Joined.{object}

@@ -1,11 +1,11 @@
-use Rattle.std.proofs.Common.{◌≡◌, ℕ, Bool, true, false, List, sym, ap, ◌∙◌}
+use Rattle.std.proofs.Common.{ℕ, List, sym, ap, ◌∙◌}
 use Rattle.buffer.specs.Held.{held}
 use Rattle.apdu.specs.View.{shape_of}
 use Rattle.apdu.specs.declared.status.Status.TheVariants.{WrongParameters}
 use Rattle.request.specs.View.{kind_of}
 use Rattle.law.specs.Hashes.{keyed}
 use Rattle.law.specs.Request.{same_kind}
-use Rattle.law.specs.Step.{says, joins, continues_as}
+use Rattle.law.specs.Step.{joins, continues_as}
 use Rattle.manage.specs.View.{core_of}
 use Rattle.manage.proofs.Said.{still, said_same}
 use Rattle.manage.proofs.card_core.Core.join_as.Goals as goal

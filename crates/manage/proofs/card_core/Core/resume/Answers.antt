@@ -1,4 +1,4 @@
-use Rattle.std.proofs.Common.{◌≡◌, ap}
+use Rattle.std.proofs.Common.{ap}
 use Rattle.buffer.specs.Held.{held}
 use Rattle.apdu.specs.View.{shape_of}
 use Rattle.apdu.specs.declared.status.Status.TheVariants.{NotNow}

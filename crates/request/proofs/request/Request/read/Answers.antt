@@ -1,7 +1,6 @@
-use Rattle.std.proofs.Common.{◌≡◌, Option, refl, ap}
+use Rattle.std.proofs.Common.{ap}
 use Rattle.std.specs.Option.{option_map}
 use Rattle.apdu.specs.View.{command_of}
-use Rattle.apdu.specs.Command.{Command}
 use Rattle.request.proofs.request.Request.read.Goals as goal
 
 pub by_header-requires : goal.by_header-requires

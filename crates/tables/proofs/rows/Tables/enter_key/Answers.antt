@@ -1,5 +1,5 @@
 use Rattle.std.proofs.Common.{Some, refl}
-use Rattle.tables.specs.View.{key_of, keys_of, masters_of, connections_of}
+use Rattle.tables.specs.View.{key_of, masters_of, connections_of}
 use Rattle.tables.proofs.Kept.{all_kept}
 use Rattle.tables.proofs.Views.{tables_same, set_seen}
 use Rattle.tables.proofs.rows.Tables.enter_key.Goals as goal

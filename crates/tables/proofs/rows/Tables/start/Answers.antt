@@ -1,9 +1,9 @@
-use Rattle.std.proofs.Common.{◌≡◌, set, Some, Option, refl, ap, ◌∙◌}
+use Rattle.std.proofs.Common.{◌≡◌, Some, Option, refl, ap, ◌∙◌}
 use Rattle.std.specs.Option.{option_map}
 use Rattle.session.specs.declared.state.Talk.{Talk}
 use Rattle.session.specs.View.{talk_of}
 use Rattle.law.specs.Tables as law
-use Rattle.law.specs.Step.{holds, holds_talk}
+use Rattle.law.specs.Step.{holds}
 use Rattle.tables.specs.declared.rows.Connection.{Connection}
 use Rattle.tables.specs.View.{connection_of, keys_of, masters_of}
 use Rattle.tables.specs.Changed.{started_with}
