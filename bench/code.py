@@ -3,7 +3,7 @@
 import re
 import subprocess
 
-OBJECT = "target/obj/measure.o"
+OBJECT = "crates/measure/out/measure.o"
 COMMAND = ".text.measure::bench_card::send"
 LOADING = ".text.measure::bench_card::new_card"
 # What makes an error's text for people is the program's, not the card's.
