@@ -3,9 +3,9 @@
 import re
 import subprocess
 
-OBJECT = "target/obj/measure.o"
-COMMAND = ".text.measure::card::send"
-LOADING = ".text.measure::card::new_card"
+OBJECT = "crates/measure/out/measure.o"
+COMMAND = ".text.measure::bench_card::send"
+LOADING = ".text.measure::bench_card::new_card"
 # What makes an error's text for people is the program's, not the card's.
 OTHERS = re.compile(r"\.text\.(core::convert|core::error|core::fmt|std)")
 
