@@ -1,7 +1,7 @@
 -- Lists of bytes, blocks, and their exclusive or.
 use Rattle.std.specs.Prelude.{◌≡◌, ℕ, ◌<◌, Bool, true, false, List, [], ◌∷◌, length, bit_xor, nat_lt, slice_index}
 
--- Each entry is a byte (past the end `get_or` gives 0).
+-- Each entry is a byte (past the end `slice_index` gives 0).
 abbrev pub Bytes : List ℕ → Type 0
 Bytes xs = (i : ℕ) → slice_index xs i < 256
 

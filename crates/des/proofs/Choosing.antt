@@ -5,7 +5,7 @@ use Rattle.std.proofs.lemmas.Nat.{pow-add}
 use Rattle.byte_lists.specs.Bytes.{both}
 use Rattle.byte_lists.proofs.Tables.{both_left, both_right}
 use Rattle.des_tables.specs.Bits.{bits, chosen}
-use Rattle.des_tables.proofs.Bits.{bits_push, get_d_bits}
+use Rattle.des_tables.proofs.Bits.{bits_push, get_or_bits}
 use Rattle.des.specs.Places.{places_in}
 
 -- one place more of the table
@@ -16,7 +16,7 @@ choose_more ps w x out i h r was =
     let b : ℕ = x / 2 ^ (w - p) % 2 in
     let lt : p - 1 < w = omega arith in
     let z : w - 1 - (p - 1) ≡ w - p = omega arith in
-    let e : get_or (bits w x) (p - 1) 0 ≡ b = get_d_bits w x (p - 1) lt ∙ ap (λ k. x / 2 ^ k % 2) z in
+    let e : get_or (bits w x) (p - 1) 0 ≡ b = get_or_bits w x (p - 1) lt ∙ ap (λ k. x / 2 ^ k % 2) z in
     bits_push i out b (omega arith)
     ∙ ap (λ y. y ++ (b ∷ [])) was
     ∙ ap (λ y. chosen (take i ps) (bits w x) ++ (y ∷ [])) (sym e)

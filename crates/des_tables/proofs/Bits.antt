@@ -22,10 +22,10 @@ bits_push n x b h =
     ap (λ m. bits m (x * 2 + b)) (add-one n) ∙ ap (λ y. bits n y ++ ((x * 2 + b) % 2 ∷ [])) q ∙ ap (λ y. bits n x ++ (y ∷ [])) r
 
 -- the bit at the place i from the front
-pub get_d_bits : (n x i : ℕ) → i < n → get_or (bits n x) i 0 ≡ x / 2 ^ (n - 1 - i) % 2
+pub get_or_bits : (n x i : ℕ) → i < n → get_or (bits n x) i 0 ≡ x / 2 ^ (n - 1 - i) % 2
 unfolding bits
-get_d_bits zero x i h = absurd (not-suc-le-zero h)
-get_d_bits (suc n) x i h =
+get_or_bits zero x i h = absurd (not-suc-le-zero h)
+get_or_bits (suc n) x i h =
     ⊎_elim
     (λ (e : i ≡ n).
     let z : suc n - 1 - i ≡ 0 = omega arith in
@@ -33,7 +33,7 @@ get_d_bits (suc n) x i h =
     (λ (l : i < n).
     let g : i < length (bits n (x / 2)) = let q = length_bits n (x / 2) in omega arith in
     let z : 1 + (n - 1 - i) ≡ suc n - 1 - i = omega arith in
-    get_or_append_left (bits n (x / 2)) (x % 2 ∷ []) 0 i g ∙ get_d_bits n (x / 2) i l ∙ ap (λ y. y % 2) (shr-shr x 1 (n - 1 - i) ∙ ap (λ k. x / 2 ^ k) z))
+    get_or_append_left (bits n (x / 2)) (x % 2 ∷ []) 0 i g ∙ get_or_bits n (x / 2) i l ∙ ap (λ y. y % 2) (shr-shr x 1 (n - 1 - i) ∙ ap (λ k. x / 2 ^ k) z))
     (eq-or-lt_of_le (le_of_suc-le-suc h))
 
 -- the high m bits and the low n

@@ -1,5 +1,5 @@
 -- What a card holds: the ledger's rows, each within its limits, each resting on what is held, each key as its load wrote it.
-use Rattle.std.specs.Prelude.{◌≡◌, ℕ, ◌≤◌, ◌⊎◌, List, [], ◌∷◌, map, get_or, Some, None, Option, slice_index_or}
+use Rattle.std.specs.Prelude.{◌≡◌, ℕ, ◌≤◌, ◌⊎◌, List, [], ◌∷◌, map, Some, None, Option, slice_index_or}
 use Rattle.byte_lists.specs.Bytes as bytes
 use Rattle.personalise.specs.Load.{Lines}
 use Rattle.personalise.specs.Written.{Good, written}
@@ -35,16 +35,16 @@ pub record SameRows (t : Tables) (b : Book) : Type 0 where
 -- A master rests on a held key, and has yielded no more connections than that lets.
 pub record MasterRests (t : Tables) (m : Master) : Type 0 where
   pub key : Key
-  pub held : get_or t.keys m.key None ≡ Some key
+  pub held : slice_index_or t.keys m.key None ≡ Some key
   pub within : m.count ≤ key.says.connections
 
 -- A connection rests on a held master, and that on a held key; no more commands were accepted than that lets. Its keys for the
 -- sealer are 40 bytes.
 pub record ConnectionRests (t : Tables) (x : Connection) : Type 0 where
   pub master : Master
-  pub held : get_or t.masters x.master None ≡ Some master
+  pub held : slice_index_or t.masters x.master None ≡ Some master
   pub key : Key
-  pub key_held : get_or t.keys master.key None ≡ Some key
+  pub key_held : slice_index_or t.keys master.key None ≡ Some key
   pub within : x.count ≤ key.says.transactions
   pub sealer : bytes.Block 40 x.keys
 

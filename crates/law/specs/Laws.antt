@@ -59,8 +59,8 @@ module _ (𝓗 : Hashing) (𝓢 : Sealing) {M : Type 0} (𝓐 : Acts M) where
   -- The session of row r has the byte r × 64: after a granted start, the first reply block says so.
   abbrev pub SessionsAreNamedByRow : Type 0
   SessionsAreNamedByRow =
-      (s : State M) (first random second later sent value-sent csa mac : List ℕ) (buffer work buffer' work' size n : ℕ) (x : At Connection)
-      → request first ≡ begin start (alone sent) → object sent ≡ value value-sent → asked_start value-sent ≡ ask_start csa size mac
+      (s : State M) (first random second later sent value_sent csa mac : List ℕ) (buffer work buffer' work' size n : ℕ) (x : At Connection)
+      → request first ≡ begin start (alone sent) → object sent ≡ value value_sent → asked_start value_sent ≡ ask_start csa size mac
       → found (has_csa csa) s.core.tables.connections ≡ Some x
       → (step 𝓗 𝓢 𝓐 s (command first random buffer work)).answer ≡ replied (status_bytes sw.ReplyWaits)
       → request second ≡ answer start (le n) → WellSized later buffer' work' → 5 ≤ n

@@ -16,8 +16,8 @@ use Rattle.law.specs.Ledger.{Reading, is, Link, Parts, Book, key_named, master_n
 abbrev pub grants : Reading → Bool
 grants a = is 0x62 0xF3 a || is 0x90 0x00 a
 
-pub record Ruled (a : Reading) (In-order Spent Forged : Type 0) : Type 0 where
-  pub granted : (grants a ≡ true) ↔ In-order
+pub record Ruled (a : Reading) (InOrder Spent Forged : Type 0) : Type 0 where
+  pub granted : (grants a ≡ true) ↔ InOrder
   pub spent : (is 0x69 0x83 a ≡ true) ↔ Spent
   pub forged : (is 0x69 0x88 a ≡ true) ↔ Forged
 

@@ -50,7 +50,7 @@ module _ (𝓢 : Sealing) (F : Faithful 𝓢) {L R : Type 0} (𝓛 : Acts L) (�
 
   pub lawful : (fill : ℕ) (s : State L) (t : State R) (cs : List Call) (ds es : List Done) (s' : State L) (t' : State R)
       → Followed 𝓢 𝓛 fill s cs ds s' → Followed 𝓢 𝓡 fill t cs es t' → LawfulRun 𝓢 𝓛 𝓡 s t cs ds es s' t'
-  lawful fill s t cs ds es s' t' left right = λ l r before came-left came-right.
+  lawful fill s t cs ds es s' t' left right = λ l r before came_left came_right.
       stands_so l r (before ++ map call_of cs) (run keyed 𝓢 𝓛 (new true l) before ++ entries cs ds) (run keyed 𝓢 𝓡 (new true r) before ++ entries cs es) s' t'
-      (answers_since 𝓢 𝓛 l before fill s cs ds s' came-left left) (answers_since 𝓢 𝓡 r before fill t cs es t' came-right right)
-      (state_since 𝓢 𝓛 l before fill s cs ds s' came-left left) (state_since 𝓢 𝓡 r before fill t cs es t' came-right right)
+      (answers_since 𝓢 𝓛 l before fill s cs ds s' came_left left) (answers_since 𝓢 𝓡 r before fill t cs es t' came_right right)
+      (state_since 𝓢 𝓛 l before fill s cs ds s' came_left left) (state_since 𝓢 𝓡 r before fill t cs es t' came_right right)

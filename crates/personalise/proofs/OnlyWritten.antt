@@ -18,25 +18,25 @@ none_is [] e = refl
 none_is (l ∷ ls) e = let z : ◌≡◌ {A = ℕ} 0 1 = cc in absurd (omega arith)
 
 -- Each line in turn, from what was read of it.
-lines_read : (from-ref : List (List ℕ)) (l : Lines) → by_lines from-ref ≡ loads l
-    → Good l × (from-ref ≡ six_lines (hex l.ref) (hex l.secret) (shown_flag l.weak) (decimal l.masters) (decimal l.connections) (decimal l.transactions))
-lines_read from-ref l e =
-    let from_key = past (codes "ref=") from-ref in
-    let from-weak = past (codes "key=") from_key in
-    let from-masters = past (codes "weak=") from-weak in
-    let from-connections = past (codes "masters=") from-masters in
-    let from-transactions = past (codes "connections=") from-connections in
-    let left = past (codes "transactions=") from-transactions in
+lines_read : (from_ref : List (List ℕ)) (l : Lines) → by_lines from_ref ≡ loads l
+    → Good l × (from_ref ≡ six_lines (hex l.ref) (hex l.secret) (shown_flag l.weak) (decimal l.masters) (decimal l.connections) (decimal l.transactions))
+lines_read from_ref l e =
+    let from_key = past (codes "ref=") from_ref in
+    let from_weak = past (codes "key=") from_key in
+    let from_masters = past (codes "weak=") from_weak in
+    let from_connections = past (codes "masters=") from_masters in
+    let from_transactions = past (codes "connections=") from_connections in
+    let left = past (codes "transactions=") from_transactions in
     let done = passed_test (none left) _ l e in
-    let all : AllRead (hexed 22 68 (value (codes "ref=") from-ref)) (hexed 32 32 (value (codes "key=") from_key)) (flag (value (codes "weak=") from-weak))
-    (limit 65535 (value (codes "masters=") from-masters)) (limit 4294967295 (value (codes "connections=") from-connections)) (limit 18446744073709551615 (value (codes "transactions=") from-transactions)) l
+    let all : AllRead (hexed 22 68 (value (codes "ref=") from_ref)) (hexed 32 32 (value (codes "key=") from_key)) (flag (value (codes "weak=") from_weak))
+    (limit 65535 (value (codes "masters=") from_masters)) (limit 4294967295 (value (codes "connections=") from_connections)) (limit 18446744073709551615 (value (codes "transactions=") from_transactions)) l
     = all_read _ _ _ _ _ _ l done.1 in
-    let r = bytes_read 22 68 (value (codes "ref=") from-ref) l.ref all.ref_is in
+    let r = bytes_read 22 68 (value (codes "ref=") from_ref) l.ref all.ref_is in
     let k = bytes_read 32 32 (value (codes "key=") from_key) l.secret all.secret_is in
-    let w = flag_read (value (codes "weak=") from-weak) l.weak all.weak_is in
-    let m = limit_read 65535 l.masters (value (codes "masters=") from-masters) (lit< tt) all.masters_is in
-    let c = limit_read 4294967295 l.connections (value (codes "connections=") from-connections) (lit< tt) all.connections_is in
-    let t = limit_read 18446744073709551615 l.transactions (value (codes "transactions=") from-transactions) (lit< tt) all.transactions_is in (
+    let w = flag_read (value (codes "weak=") from_weak) l.weak all.weak_is in
+    let m = limit_read 65535 l.masters (value (codes "masters=") from_masters) (lit< tt) all.masters_is in
+    let c = limit_read 4294967295 l.connections (value (codes "connections=") from_connections) (lit< tt) all.connections_is in
+    let t = limit_read 18446744073709551615 l.transactions (value (codes "transactions=") from_transactions) (lit< tt) all.transactions_is in (
       record {
         ref_bytes = r.bytes;
         ref_least = r.least;
@@ -46,17 +46,17 @@ lines_read from-ref l e =
         connections_top = c.1;
         transactions_top = t.1;
       },
-      value_past (codes "ref=") (hex l.ref) from-ref r.is
+      value_past (codes "ref=") (hex l.ref) from_ref r.is
           ∙ ap (λ ls. (codes "ref=" ++ hex l.ref) ∷ ls)
           (value_past (codes "key=") (hex l.secret) from_key k.is
           ∙ ap (λ ls. (codes "key=" ++ hex l.secret) ∷ ls)
-          (value_past (codes "weak=") (shown_flag l.weak) from-weak w
+          (value_past (codes "weak=") (shown_flag l.weak) from_weak w
           ∙ ap (λ ls. (codes "weak=" ++ shown_flag l.weak) ∷ ls)
-          (value_past (codes "masters=") (decimal l.masters) from-masters m.0
+          (value_past (codes "masters=") (decimal l.masters) from_masters m.0
           ∙ ap (λ ls. (codes "masters=" ++ decimal l.masters) ∷ ls)
-          (value_past (codes "connections=") (decimal l.connections) from-connections c.0
+          (value_past (codes "connections=") (decimal l.connections) from_connections c.0
           ∙ ap (λ ls. (codes "connections=" ++ decimal l.connections) ∷ ls)
-          (value_past (codes "transactions=") (decimal l.transactions) from-transactions t.0
+          (value_past (codes "transactions=") (decimal l.transactions) from_transactions t.0
           ∙ ap (λ ls. (codes "transactions=" ++ decimal l.transactions) ∷ ls) (none_is left done.0)))))),
     )
 

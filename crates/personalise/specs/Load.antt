@@ -61,20 +61,20 @@ keyed None k w m c t = malformed
 
 -- Each line is looked for behind the one before it, and none may be left.
 abbrev pub by_lines : List (List ℕ) → Loading
-by_lines from-ref =
-    let from_key : List (List ℕ) = past (codes "ref=") from-ref in
-    let from-weak : List (List ℕ) = past (codes "key=") from_key in
-    let from-masters : List (List ℕ) = past (codes "weak=") from-weak in
-    let from-connections : List (List ℕ) = past (codes "masters=") from-masters in
-    let from-transactions : List (List ℕ) = past (codes "connections=") from-connections in
-    cond (none (past (codes "transactions=") from-transactions))
+by_lines from_ref =
+    let from_key : List (List ℕ) = past (codes "ref=") from_ref in
+    let from_weak : List (List ℕ) = past (codes "key=") from_key in
+    let from_masters : List (List ℕ) = past (codes "weak=") from_weak in
+    let from_connections : List (List ℕ) = past (codes "masters=") from_masters in
+    let from_transactions : List (List ℕ) = past (codes "connections=") from_connections in
+    cond (none (past (codes "transactions=") from_transactions))
     (keyed
-    (hexed 22 68 (value (codes "ref=") from-ref))
+    (hexed 22 68 (value (codes "ref=") from_ref))
     (hexed 32 32 (value (codes "key=") from_key))
-    (flag (value (codes "weak=") from-weak))
-    (limit 65535 (value (codes "masters=") from-masters))
-    (limit 4294967295 (value (codes "connections=") from-connections))
-    (limit 18446744073709551615 (value (codes "transactions=") from-transactions)))
+    (flag (value (codes "weak=") from_weak))
+    (limit 65535 (value (codes "masters=") from_masters))
+    (limit 4294967295 (value (codes "connections=") from_connections))
+    (limit 18446744073709551615 (value (codes "transactions=") from_transactions)))
     malformed
 
 abbrev pub loading : List ℕ → Loading

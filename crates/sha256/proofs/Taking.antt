@@ -66,10 +66,10 @@ module _ (bytes piece : List ℕ) where
         ap (λ i. take i b) z ∙ sym (drop_all (64 * (length (bytes ++ piece) / 64)) (bytes ++ piece) (omega arith))
 
 -- The words and the bytes left over, once the piece is copied behind the h bytes that the block b held.
-abbrev pub Goes_on : List ℕ → Eight → List ℕ → Type 0
-Goes_on bytes v b = (v ≡ hashed (length bytes / 64) bytes) × (take (length bytes % 64) b ≡ drop (64 * (length bytes / 64)) bytes)
+abbrev pub GoesOn : List ℕ → Eight → List ℕ → Type 0
+GoesOn bytes v b = (v ≡ hashed (length bytes / 64) bytes) × (take (length bytes % 64) b ≡ drop (64 * (length bytes / 64)) bytes)
 
-module _ (bytes piece b copy : List ℕ) (v w : Eight) (h m : ℕ) (eh : h ≡ length bytes % 64) (room : h + length piece ≤ 64) (long : length b ≡ 64) (em : m ≡ length piece) (ec : copy ≡ piece) (was : Goes_on bytes v b)
+module _ (bytes piece b copy : List ℕ) (v w : Eight) (h m : ℕ) (eh : h ≡ length bytes % 64) (room : h + length piece ≤ 64) (long : length b ≡ 64) (em : m ≡ length piece) (ec : copy ≡ piece) (was : GoesOn bytes v b)
     (ew : w ≡ cond (eqb (h + length piece) 64) (compressed v (put_mid h m b copy)) v) where
   -- The front of the block is the bytes left over and the piece.
   front : take (h + length piece) (put_mid h m b copy) ≡ drop (64 * (length bytes / 64)) bytes ++ piece
@@ -80,7 +80,7 @@ module _ (bytes piece b copy : List ℕ) (v w : Eight) (h m : ℕ) (eh : h ≡ l
       ∙ ap (λ y. y ++ copy) was.1
       ∙ ap (λ y. drop (64 * (length bytes / 64)) bytes ++ y) ec
 
-  when_full : h + length piece ≡ 64 → Goes_on (bytes ++ piece) w (put_mid h m b copy)
+  when_full : h + length piece ≡ 64 → GoesOn (bytes ++ piece) w (put_mid h m b copy)
   when_full full =
       let l : length copy ≡ length piece = ap length ec in
       let f : length bytes % 64 + length piece ≡ 64 = omega arith in
@@ -89,14 +89,14 @@ module _ (bytes piece b copy : List ℕ) (v w : Eight) (h m : ℕ) (eh : h ≡ l
         held_full bytes piece f (put_mid h m b copy),
       )
 
-  when_open : (h + length piece ≡ 64 → ⊥) → Goes_on (bytes ++ piece) w (put_mid h m b copy)
+  when_open : (h + length piece ≡ 64 → ⊥) → GoesOn (bytes ++ piece) w (put_mid h m b copy)
   when_open open' =
       let f : length bytes % 64 + length piece < 64 = omega arith in (
         ew ∙ cond-false (eqb (h + length piece) 64) _ _ (ne_eqb _ _ open') ∙ chained_open bytes piece f v was.0,
         held_open bytes piece f (put_mid h m b copy) (h + length piece) (omega arith) front,
       )
 
-  pub goes_on : Goes_on (bytes ++ piece) w (put_mid h m b copy)
+  pub goes_on : GoesOn (bytes ++ piece) w (put_mid h m b copy)
   goes_on = ⊎_elim when_full when_open (cases_eq (h + length piece) 64)
 
 -- A list with its next piece behind what was taken of it.
