@@ -34,11 +34,11 @@ def depth(process):
 
 def main():
     gdb.execute("set pagination off")
-    gdb.Breakpoint("measure::card::send", internal=True)
+    gdb.Breakpoint("measure::bench_card::send", internal=True)
     gdb.execute("run 1 > /dev/null", to_string=True)
     process, deepest = gdb.selected_inferior(), {}
     while process.threads():
-        apdu = process.read_memory(number(process.read_memory(register("rsi"), 8)), 4)
+        apdu = process.read_memory(register("rsi"), 4)
         name = kind([b[0] for b in apdu])
         deepest[name] = max(deepest.get(name, 0), depth(process))
         gdb.execute("continue", to_string=True)
