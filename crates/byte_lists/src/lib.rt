@@ -9,8 +9,9 @@ pub fn join(block: &mut [u8], with: &[u8])
     requires { length block.old ≡ length with.now }
     ensures { block.new ≡ xors block.old with.now }
 {
-    for i in 0..block.len() {
-        block[i] ^= with[i];
+    // Over `iter_mut().zip(with)` no proof knows what the block is after the loop.
+    for (i, byte) in block.iter_mut().enumerate() {
+        *byte ^= with[i];
     }
 }
 

@@ -1,5 +1,5 @@
 pub mod Permutes
 pub mod Triple
 pub mod Cbc
-pub mod Links
 pub mod Permuting
+pub mod Links

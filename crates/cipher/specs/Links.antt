@@ -1,19 +1,7 @@
--- The two ways through a chain as one: what the loop does for each block.
-use Rattle.std.specs.Prelude.{ℕ, ◌/◌, List, length, replicate}
-use Rattle.cipher.specs.Cbc.{chained, forth, back, itself}
-use Rattle.cipher.specs.declared.cbc.Way.{Way}
-use Rattle.cipher.specs.declared.cbc.Way.TheVariants.{Encrypting, Decrypting}
+-- What a step of a chain does.
+use Rattle.std.specs.Prelude.{◌≡◌, List, ℕ}
+use Rattle.std.specs.Borrow.{MutBor}
 
--- What a block becomes behind the ciphertext prev.
-abbrev pub becomes : Way → (List ℕ → List ℕ) → (List ℕ → List ℕ) → List ℕ → List ℕ → List ℕ
-becomes Encrypting E D = forth E
-becomes Decrypting E D = back D
-
--- The ciphertext before the next block.
-abbrev pub carried : Way → (List ℕ → List ℕ) → List ℕ → List ℕ → List ℕ
-carried Encrypting E = forth E
-carried Decrypting E = itself
-
--- The whole chain, from a block of zeros.
-abbrev pub chain_of : Way → ℕ → (List ℕ → List ℕ) → (List ℕ → List ℕ) → List ℕ → List ℕ
-chain_of w n E D xs = chained n (becomes w E D) (carried w E) (length xs / n) (replicate n 0) xs
+-- Each call of a step on the block before and the block leaves the one that next gives in the first, and what out gives in the second.
+abbrev pub Links : (MutBor (List ℕ) → MutBor (List ℕ) → Unit {0} → MutBor (List ℕ) → MutBor (List ℕ) → Type 0) → (List ℕ → List ℕ → List ℕ) → (List ℕ → List ℕ → List ℕ) → Type 0
+Links post out next = (before block before' block' : MutBor (List ℕ)) → post before block tt before' block' → (block'.now ≡ out before.now block.now) × (before'.now ≡ next before.now block.now)

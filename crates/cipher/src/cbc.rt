@@ -1,60 +1,50 @@
 // Cipher block chaining from a block of zeros, in place, for every block cipher.
-ghost use Rattle.std.specs.Prelude.{◌≡◌, ◌-◌, ◌%◌, ◌≤◌, ◌++◌, length, take, drop};
-ghost use Rattle.cipher.specs.Cbc.{cbc, uncbc};
-ghost use Rattle.cipher.specs.Links.{becomes, carried, chain_of};
+ghost use Rattle.std.specs.Prelude.{◌≡◌, ℕ, ◌⊎◌, ◌-◌, ◌/◌, ◌%◌, ◌≤◌, ◌++◌, List, length, take, drop, replicate};
+ghost use Rattle.cipher.specs.Cbc.{cbc, uncbc, chained, forth, back, itself};
+ghost use Rattle.cipher.specs.Links.{Links};
 
 use crate::block::BlockCipher;
 use byte_lists::join;
 
-// Which way a chain runs.
-#[derive(Clone, Copy)]
-enum Way {
-    Encrypting,
-    Decrypting,
-}
-
-// One block of a chain: `before` is the ciphertext in front of it, and is then the one in front of the next.
-fn link<C: BlockCipher>(cipher: &C, way: Way, before: &mut [u8], block: &mut [u8])
-    requires { (length block.old ≡ C.size) × (length before.old ≡ C.size) }
-    ensures now { block.new ≡ becomes way (C.enc cipher.now) (C.dec cipher.now) before.old block.old }
-    ensures next { before.new ≡ carried way (C.enc cipher.now) before.old block.old }
+// Runs `link` on each block of n bytes from the byte `from` to the buffer's end. It is given the block that stands before,
+// at first zeros, and the block itself, and leaves in the first what stands before the next one.
+fn chain<F: Fn(&mut [u8], &mut [u8])>(buf: &mut [u8], from: usize, n: usize, link: F)
+    requires sizes { (n ≡ 8) ⊎ (n ≡ 16) }
+    requires whole { (from ≤ length buf.old) × ((length buf.old - from) % n ≡ 0) }
+    requires takes { (before block : _) → length before.now ≡ n → length block.now ≡ n → F.pre link before block }
+    ensures { (out next : List ℕ → List ℕ → List ℕ)
+        → Links (F.post link) out next
+        → buf.new ≡ take from buf.old ++ chained n out next (length (drop from buf.old) / n) (replicate n 0) (drop from buf.old) }
 {
-    match way {
-        Way::Encrypting => {
-            join(block, before);
-            cipher.encrypt(block);
-            before.copy_from_slice(block);
-        }
-        Way::Decrypting => unlink(cipher, before, block),
+    let mut before = [0u8; 16];
+    for at in (from..buf.len()).step_by(n) {
+        link(&mut before[..n], &mut buf[at..at + n]);
     }
 }
 
-// A block is decrypted and joined with the ciphertext before it.
+// A block is joined with the ciphertext before it, and encrypted; it then stands before the next one.
+fn link<C: BlockCipher>(cipher: &C, before: &mut [u8], block: &mut [u8])
+    requires { (length before.old ≡ C.size) × (length block.old ≡ C.size) }
+    ensures now { block.new ≡ forth (C.enc cipher.now) before.old block.old }
+    ensures next { before.new ≡ forth (C.enc cipher.now) before.old block.old }
+{
+    join(block, before);
+    cipher.encrypt(block);
+    before.copy_from_slice(block);
+}
+
+// A block is decrypted and joined with the ciphertext before it; as it was, it stands before the next one.
 fn unlink<C: BlockCipher>(cipher: &C, before: &mut [u8], block: &mut [u8])
-    requires { (length block.old ≡ C.size) × (length before.old ≡ C.size) }
-    ensures now { block.new ≡ becomes Way.Decrypting (C.enc cipher.now) (C.dec cipher.now) before.old block.old }
-    ensures next { before.new ≡ block.old }
+    requires { (length before.old ≡ C.size) × (length block.old ≡ C.size) }
+    ensures now { block.new ≡ back (C.dec cipher.now) before.old block.old }
+    ensures next { before.new ≡ itself before.old block.old }
 {
     let n = C::block_len();
     let mut kept = [0u8; 16];
-    kept[0..n].copy_from_slice(block);
+    kept[..n].copy_from_slice(block);
     cipher.decrypt(block);
     join(block, before);
-    before.copy_from_slice(&kept[0..n]);
-}
-
-// The whole chain, from the byte `from` to the buffer's end.
-fn chain<C: BlockCipher>(cipher: &C, way: Way, buf: &mut [u8], from: usize)
-    requires { (from ≤ length buf.old) × ((length buf.old - from) % C.size ≡ 0) }
-    ensures { buf.new ≡ take from buf.old ++ chain_of way C.size (C.enc cipher.now) (C.dec cipher.now) (drop from buf.old) }
-{
-    let n = C::block_len();
-    let mut before = [0u8; 16];
-    let mut i = from;
-    while i < buf.len() {
-        link(cipher, way, &mut before[0..n], &mut buf[i..i + n]);
-        i += n;
-    }
+    before.copy_from_slice(&kept[..n]);
 }
 
 // Encrypts in place from the byte `from` to the end, in whole blocks. Decrypting gives back what was there.
@@ -63,7 +53,12 @@ pub fn cbc_encrypt<C: BlockCipher>(cipher: &C, buf: &mut [u8], from: usize)
     ensures is { buf.new ≡ take from buf.old ++ cbc C.size (C.enc cipher.now) (drop from buf.old) }
     ensures undone { uncbc C.size (C.dec cipher.now) (drop from buf.new) ≡ drop from buf.old }
 {
-    chain(cipher, Way::Encrypting, buf, from);
+    chain(
+        buf,
+        from,
+        C::block_len(),
+        |before, block| link(cipher, before, block),
+    );
 }
 
 // Decrypts in place from the byte `from` to the end, in whole blocks. Encrypting gives back what was there.
@@ -72,5 +67,10 @@ pub fn cbc_decrypt<C: BlockCipher>(cipher: &C, buf: &mut [u8], from: usize)
     ensures is { buf.new ≡ take from buf.old ++ uncbc C.size (C.dec cipher.now) (drop from buf.old) }
     ensures undone { cbc C.size (C.enc cipher.now) (drop from buf.new) ≡ drop from buf.old }
 {
-    chain(cipher, Way::Decrypting, buf, from);
+    chain(
+        buf,
+        from,
+        C::block_len(),
+        |before, block| unlink(cipher, before, block),
+    );
 }

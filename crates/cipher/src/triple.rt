@@ -18,7 +18,7 @@ impl<C: BlockCipher> Triple<C> {
     // The triple of three ciphers. Three equal ones make the single cipher.
     pub fn new(first: C, second: C, third: C) -> Triple<C>
         ensures keys { (result.first ≡ first) × (result.second ≡ second) × (result.third ≡ third) }
-        ensures single { first ≡ second → second ≡ third → (b : List ℕ) → Block C.BlockCipher.size b → in_turn (C.BlockCipher.enc result.first) (C.BlockCipher.dec result.second) (C.BlockCipher.enc result.third) b ≡ C.BlockCipher.enc first b }
+        ensures single { first ≡ second → second ≡ third → (b : List ℕ) → Block C.size b → in_turn (C.enc result.first) (C.dec result.second) (C.enc result.third) b ≡ C.enc first b }
     {
         Triple {
             first,
@@ -31,16 +31,16 @@ impl<C: BlockCipher> Triple<C> {
 impl<C: BlockCipher> BlockCipher for Triple<C> {
     const BLOCK: usize = C::BLOCK;
 
-    ghost size = { C.BlockCipher.size };
+    ghost size = { C.size };
 
-    ghost enc = { λ t. in_turn (C.BlockCipher.enc t.first) (C.BlockCipher.dec t.second) (C.BlockCipher.enc t.third) };
+    ghost enc = { λ t. in_turn (C.enc t.first) (C.dec t.second) (C.enc t.third) };
 
-    ghost dec = { λ t. in_turn (C.BlockCipher.dec t.third) (C.BlockCipher.enc t.second) (C.BlockCipher.dec t.first) };
+    ghost dec = { λ t. in_turn (C.dec t.third) (C.enc t.second) (C.dec t.first) };
 
-    ghost sizes = { C.BlockCipher.sizes };
+    ghost sizes = { C.sizes };
 
     ghost permutes = { λ k.
-        let laws = C.BlockCipher.permutes in
+        let laws = C.permutes in
         after (after (laws k.first) (turned (laws k.second))) (laws k.third) };
 
     fn block_len() -> usize {

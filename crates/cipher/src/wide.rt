@@ -6,9 +6,9 @@ use crate::triple::Triple;
 
 // A block cipher whose blocks have 16 bytes.
 pub trait Wide: BlockCipher {
-    ghost wide: { Self.BlockCipher.size ≡ 16 };
+    ghost wide: { Self.size ≡ 16 };
 }
 
 impl<C: Wide> Wide for Triple<C> {
-    ghost wide = { C.Wide.wide };
+    ghost wide = { C.wide };
 }

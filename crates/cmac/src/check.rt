@@ -7,7 +7,7 @@ ghost use Rattle.cmac.specs.Checks.{block_cmac};
 
 use crate::absorb::absorb;
 use crate::blocks::BLOCK;
-use crate::last::write_masked;
+use crate::last::masked_last;
 use byte_lists::join;
 use cipher::{BlockCipher, Wide};
 use integrity::Integrity;
@@ -31,7 +31,7 @@ impl<C: Wide> Cmac<C> {
 fn blocks_before_last(len: usize) -> usize
     ensures { result ≡ before_last len }
 {
-    if len == 0 { 0 } else { (len - 1) / BLOCK }
+    len.saturating_sub(1) / BLOCK
 }
 
 impl<C: Wide> Integrity for Cmac<C> {
@@ -39,26 +39,25 @@ impl<C: Wide> Integrity for Cmac<C> {
 
     ghost size = { 16 };
 
-    ghost check = { λ k message. cmac (C.BlockCipher.enc k.cipher) message };
+    ghost check = { λ k message. cmac (C.enc k.cipher) message };
 
     ghost bounded = { (lit≤ tt, lit≤ tt) };
 
     ghost fixed = { λ k message h.
-        let E : List ℕ → List ℕ = C.BlockCipher.enc k.cipher in
+        let E : List ℕ → List ℕ = C.enc k.cipher in
         let Keeps : ℕ → Type 0 = λ n. (b : List ℕ) → Block n b → Block n (E b) in
-        block_cmac E (subst Keeps C.Wide.wide (C.BlockCipher.permutes k.cipher).forth) message h };
+        block_cmac E (subst Keeps C.wide (C.permutes k.cipher).forth) message h };
 
     fn tag_len() -> usize {
         BLOCK
     }
 
     fn write_check(&self, message: &[u8], out: &mut [u8]) {
-        let blocks = blocks_before_last(message.len());
-        let mut last = [0u8; BLOCK];
-        write_masked(&self.cipher, &message[BLOCK * blocks..], &mut last);
-        out.copy_from_slice(&[0; BLOCK]);
-        absorb(&self.cipher, out, message, blocks);
-        join(out, &last);
-        self.cipher.encrypt(out);
+        let (front, last) = message.split_at(BLOCK * blocks_before_last(message.len()));
+        let mut state = [0; BLOCK];
+        absorb(&self.cipher, &mut state, front);
+        join(&mut state, &masked_last(&self.cipher, last));
+        self.cipher.encrypt(&mut state);
+        out.copy_from_slice(&state);
     }
 }

@@ -1,5 +1,5 @@
 // Doubling a block in GF(2^128).
-ghost use Rattle.std.specs.Prelude.{◌≡◌, ◌+◌, ◌*◌, ◌/◌, ◌%◌, length};
+ghost use Rattle.std.specs.Prelude.{◌≡◌, ◌+◌, ◌*◌, ◌/◌, ◌%◌};
 ghost use Rattle.cmac.specs.Cmac.{shifted, doubled};
 
 use crate::blocks::BLOCK;
@@ -11,15 +11,15 @@ fn shifted_byte(byte: u8, behind: u8) -> u8
     (byte << 1) | (behind >> 7)
 }
 
-// Shifts the block left by one bit, out of its first byte.
-fn shift_left(block: &mut [u8])
-    requires { length block.old ≡ 16 }
-    ensures { block.new ≡ shifted block.old }
+// The block shifted left by one bit, out of its first byte.
+fn shift_left(block: &[u8; BLOCK]) -> [u8; BLOCK]
+    ensures { result ≡ shifted block.now }
 {
-    for i in 0..BLOCK - 1 {
-        block[i] = shifted_byte(block[i], block[i + 1]);
+    let mut shifted = *block;
+    for (i, byte) in shifted.iter_mut().enumerate() {
+        *byte = shifted_byte(*byte, block.get(i + 1).copied().unwrap_or(0));
     }
-    block[BLOCK - 1] = shifted_byte(block[BLOCK - 1], 0);
+    shifted
 }
 
 // What is joined into the last byte for the bit that falls out of the first.
@@ -29,12 +29,11 @@ fn carry(first: u8) -> u8
     (first >> 7) * 0x87
 }
 
-// Doubles the block.
-pub fn double(block: &mut [u8])
-    requires { length block.old ≡ 16 }
-    ensures { block.new ≡ doubled block.old }
+// Twice the block.
+pub fn double(block: &[u8; BLOCK]) -> [u8; BLOCK]
+    ensures { result ≡ doubled block.now }
 {
-    let carried = carry(block[0]);
-    shift_left(block);
-    block[BLOCK - 1] ^= carried;
+    let mut twice = shift_left(block);
+    twice[BLOCK - 1] ^= carry(block[0]);
+    twice
 }

@@ -15,21 +15,18 @@ fn is_whole(part: &[u8]) -> bool
     part.len() == BLOCK
 }
 
-// Writes the subkey for a last block that is whole or not.
-fn write_subkey<C: Wide>(cipher: &C, whole: bool, block: &mut [u8])
-    requires { length block.old ≡ 16 }
-    ensures { block.new ≡ subkey (C.BlockCipher.enc cipher.now) whole }
+// The subkey for a last block that is whole or not.
+fn subkey_for<C: Wide>(cipher: &C, whole: bool) -> [u8; BLOCK]
+    ensures { result ≡ subkey (C.enc cipher.now) whole }
 {
-    block.copy_from_slice(&[0; BLOCK]);
-    cipher.encrypt(block);
-    double(block);
-    if !whole {
-        double(block);
-    }
+    let mut block = [0; BLOCK];
+    cipher.encrypt(&mut block);
+    let once = double(&block);
+    if whole { once } else { double(&once) }
 }
 
 // Joins the bit 1 behind n bytes into `block`.
-fn join_mark(block: &mut [u8], n: usize)
+fn join_mark(block: &mut [u8; BLOCK], n: usize)
     requires { n < length block.old }
     ensures { block.new ≡ slice_set block.old n (bit_xor (slice_index block.old n) 0x80) }
 {
@@ -37,8 +34,8 @@ fn join_mark(block: &mut [u8], n: usize)
 }
 
 // Joins the last block, padded where it is not whole, into `block`.
-fn join_filled(block: &mut [u8], part: &[u8])
-    requires { (length block.old ≡ 16) × (length part.now ≤ 16) }
+fn join_filled(block: &mut [u8; BLOCK], part: &[u8])
+    requires { length part.now ≤ 16 }
     ensures { block.new ≡ xors block.old (filled part.now) }
 {
     let n = part.len();
@@ -48,11 +45,12 @@ fn join_filled(block: &mut [u8], part: &[u8])
     }
 }
 
-// Writes the last block with its subkey joined in.
-pub fn write_masked<C: Wide>(cipher: &C, part: &[u8], block: &mut [u8])
-    requires { (length block.old ≡ 16) × (length part.now ≤ 16) }
-    ensures { block.new ≡ masked (C.BlockCipher.enc cipher.now) part.now }
+// The last block with its subkey joined in.
+pub fn masked_last<C: Wide>(cipher: &C, part: &[u8]) -> [u8; BLOCK]
+    requires { length part.now ≤ 16 }
+    ensures { result ≡ masked (C.enc cipher.now) part.now }
 {
-    write_subkey(cipher, is_whole(part), block);
-    join_filled(block, part);
+    let mut block = subkey_for(cipher, is_whole(part));
+    join_filled(&mut block, part);
+    block
 }

@@ -1,8 +1,8 @@
 -- Dividing bits is linear: what stands above the bits that are divided only moves down.
-use Rattle.std.proofs.Common.{◌≡◌, ℕ, zero, suc, ◌+◌, ◌*◌, ◌/◌, ◌%◌, ◌^◌, ◌<◌, Bool, true, false, cond, eqb, sym, refl, ap, ◌∙◌, mul_assoc, mul-one, arith}
+use Rattle.std.proofs.Common.{◌≡◌, ℕ, zero, suc, ◌+◌, ◌*◌, ◌/◌, ◌%◌, ◌^◌, ◌<◌, Bool, true, false, cond, eqb, List, [], ◌∷◌, fold, sym, refl, ap, ◌∙◌, mul_assoc, mul-one, arith}
 use native.Mathlib.Nat.{pow-succ'}
 use lib.Bits.{bit_and, bit_xor, and_mask, xor_mod, xor_shr, xor_assoc, xor_comm, xor_shifted}
-use Rattle.crc.specs.Crc.{polynomial, divided, bits}
+use Rattle.crc.specs.Crc.{polynomial, divided, bits, remainder}
 
 xor_cond : (b : Bool) (q y p : ℕ) → cond b (bit_xor (bit_xor q y) p) (bit_xor q y) ≡ bit_xor q (cond b (bit_xor y p) y)
 xor_cond true q y p = xor_assoc q y p
@@ -36,3 +36,9 @@ eight_bits x =
     ∙ xor_comm (bits 8 (x % 256)) (x / 256)
     ∙ sym (bits_above 8 (x / 256) (x % 256))
     ∙ ap (bits 8) (xor_shifted (x / 256) 8 (x % 256) byte ∙ whole)
+
+-- The remainder is a fold.
+pub fold_remainder : (x : ℕ) (bs : List ℕ) → fold (λ s b. bits 8 (bit_xor s b)) x bs ≡ remainder x bs
+unfolding remainder
+fold_remainder x [] = refl
+fold_remainder x (b ∷ bs) = fold_remainder (bits 8 (bit_xor x b)) bs

@@ -22,11 +22,10 @@ fn divide_byte(state: u32) -> u32
 fn divide(message: &[u8]) -> u32
     ensures { result ≡ remainder start message.now }
 {
-    let mut state = 0xffff_ffffu32;
-    for byte in message {
-        state = divide_byte(state ^ u32::from(*byte));
-    }
-    state
+    message.iter().fold(
+        0xffff_ffff,
+        |state, byte| divide_byte(state ^ u32::from(*byte)),
+    )
 }
 
 // The inverted remainder of the message.
@@ -34,13 +33,6 @@ fn divide_and_invert(message: &[u8]) -> u32
     ensures { result ≡ inverted (remainder start message.now) }
 {
     divide(message) ^ 0xffff_ffff
-}
-
-// The bytes of a number, the highest first.
-fn highest_first(number: u32) -> [u8; 4]
-    ensures { result ≡ number / 16777216 % 256 ∷ number / 65536 % 256 ∷ number / 256 % 256 ∷ number % 256 ∷ [] }
-{
-    number.to_be_bytes()
 }
 
 impl Integrity for Crc32 {
@@ -59,6 +51,6 @@ impl Integrity for Crc32 {
     }
 
     fn write_check(&self, message: &[u8], out: &mut [u8]) {
-        out.copy_from_slice(&highest_first(divide_and_invert(message)));
+        out.copy_from_slice(&divide_and_invert(message).to_be_bytes());
     }
 }

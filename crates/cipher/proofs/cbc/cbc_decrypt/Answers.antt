@@ -4,9 +4,8 @@ use Rattle.byte_lists.proofs.Facts.{bytes_of}
 use Rattle.cipher.proofs.Undo.{decrypted_undone}
 use Rattle.cipher.proofs.cbc.cbc_decrypt.Goals as goal
 
-pub returns : goal.returns
-returns g c =
+pub returns-clause-undone : goal.returns-clause-undone
+returns-clause-undone g c =
     let laws = g.met.C.BlockCipher.permutes c.args.cipher.now in
     let bytes : Bytes c.args.buf.now = bytes_of _ (λ i. search rules) in
-    let is = c.chain.ensures in
-    record { is = is; undone = decrypted_undone _ _ _ laws _ _ _ c.requires.0 c.requires.1 bytes is }
+    decrypted_undone _ _ _ laws _ _ _ c.requires.0 c.requires.1 bytes (search rules)

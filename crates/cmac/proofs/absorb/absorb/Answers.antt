@@ -1,17 +1,22 @@
-use Rattle.std.proofs.Common.{◌+◌, ◌-◌, ◌*◌, drop, sym, ap, ◌∙◌, arith}
-use Rattle.cmac.specs.Links.{absorbed_more, absorbed_all}
+use Rattle.std.proofs.Common.{◌+◌, ◌/◌, length, List, ℕ, [], drop, fold, sym, ap, ◌∙◌}
+use Rattle.std.proofs.lemmas.List.{at_drop_more, at_drop_all}
+use Rattle.cmac.proofs.Folds.{taking, fold_absorbed}
 use Rattle.cmac.proofs.absorb.absorb.Goals as goal
 
-pub loop-i-preserved : goal.loop-i-preserved
-loop-i-preserved g c =
-    let i = c.loop-i.i in
-    let E = g.C.BlockCipher.enc c.args.cipher.now in
-    absorbed_more E c.args.blocks i ((16 * i + 16) - 16 * i) c.loop-i.state c.encrypt.new.block c.args.text.now c.loop-i-test.true (omega arith)
-    (c.encrypt.ensures ∙ ap E c.join.ensures)
-    ∙ c.loop-i.invariant
+pub loop-block-preserved : goal.loop-block-preserved
+loop-block-preserved g c =
+    let E : List ℕ → List ℕ = g.C.BlockCipher.enc c.args.cipher.now in
+    let blocks : List (List ℕ) = c.as_chunks.result.0.now in
+    let i : ℕ = c.loop-block.block-index in
+    ap (λ s. fold (taking E) s (drop (i + 1) blocks)) (c.encrypt.ensures ∙ ap E c.join.ensures)
+    ∙ sym (at_drop_more (fold (taking E) c.loop-block.state) blocks i [] c.loop-block-test.true)
+    ∙ c.loop-block.invariant
 
 pub returns : goal.returns
 returns g c =
-    let i = c.loop-i.i in
-    let E = g.C.BlockCipher.enc c.args.cipher.now in
-    sym (absorbed_all E c.args.blocks i c.loop-i.state (drop (16 * i) c.args.text.now) c.loop-i-test.false) ∙ c.loop-i.invariant
+    let E : List ℕ → List ℕ = g.C.BlockCipher.enc c.args.cipher.now in
+    let text : List ℕ = c.args.text.now in
+    sym (at_drop_all (fold (taking E) c.loop-block.state) c.as_chunks.result.0.now c.loop-block.block-index c.loop-block-test.false)
+    ∙ c.loop-block.invariant
+    ∙ ap (fold (taking E) c.args.state.now) c.as_chunks.ensures.front
+    ∙ fold_absorbed E (length text / 16) c.args.state.now text

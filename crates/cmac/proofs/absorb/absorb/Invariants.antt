@@ -1,8 +1,8 @@
-use Rattle.std.proofs.Common.{◌≡◌, ◌-◌, ◌*◌, drop}
-use Rattle.cmac.specs.Cmac.{absorbed}
+use Rattle.std.proofs.Common.{◌≡◌, drop, fold}
+use Rattle.cmac.proofs.Folds.{taking}
 use Rattle.cmac.proofs.absorb.absorb.Given as goal
 
-abbrev pub invariant-loop-i : goal.invariant-loop-i
-invariant-loop-i g l =
+abbrev pub invariant-loop-block : goal.invariant-loop-block
+invariant-loop-block g l =
     let E = g.C.BlockCipher.enc l.cipher in
-    absorbed E (l.blocks - l.i) l.state (drop (16 * l.i) l.text) ≡ absorbed E l.blocks l.initial.state l.text
+    fold (taking E) l.state (drop l.block-index l.blocks) ≡ fold (taking E) l.initial.state l.blocks

@@ -4,4 +4,4 @@ use Rattle.cmac.specs.Cmac.{shifted}
 use Rattle.cmac.proofs.double.shift_left.Given as goal
 
 abbrev pub invariant-loop-i : goal.invariant-loop-i
-invariant-loop-i l = l.block ≡ over (shifted l.initial.block) l.initial.block l.i
+invariant-loop-i l = l.byte-items ≡ over (shifted l.block) l.block l.i

@@ -8,6 +8,6 @@ pub returns : goal.returns
 unfolding crc
 returns c =
     c.copy_from_slice.ensures.after
-    ∙ c.highest_first.ensures
+    ∙ c.to_be_bytes.ensures
     ∙ sym (octets_four c.divide_and_invert.result)
     ∙ ap (octets 4) c.divide_and_invert.ensures
