@@ -1,16 +1,21 @@
 -- The rounds on words.
-use Rattle.std.proofs.Common.{◌≡◌, ℕ, ◌+◌, ◌-◌, ◌*◌, ◌/◌, ◌%◌, ◌^◌, ◌<◌, ◌≤◌, List, [], ◌∷◌, map, length, get_or, drop, sym, ap, ◌∙◌, arith}
+use Rattle.std.proofs.Common.{◌≡◌, ℕ, ◌+◌, ◌*◌, ◌/◌, ◌%◌, ◌^◌, ◌<◌, ◌≤◌, List, [], ◌∷◌, map, length, reverse, get_or, drop, sym, refl, ap, ◌∙◌}
 use lib.Bits.{bit_xor}
-use lib.ListN.{length-map, length-reverse}
-use Rattle.std.proofs.lemmas.List.{drop_more, drop_all, get_or-map, get_or-reverse}
+use mathlib.Core.List.{reverse_aux}
+use Rattle.std.proofs.lemmas.List.{drop_more, drop_all}
 use Rattle.byte_lists.specs.Bytes.{xors}
 use Rattle.des_tables.specs.Bits.{bits}
 use Rattle.des_tables.proofs.Bits.{bits_xor, bits_mod, take_bits, drop_bits, bits_joined}
 use Rattle.des.specs.Feistel.{Halves, halves, crossed, turns}
 use Rattle.des.specs.Des.{mixed}
-use Rattle.des.specs.Order.{ordered, key_at}
-use Rattle.des.specs.declared.order.Order.{Order}
-use Rattle.des.specs.declared.order.Order.TheVariants.{Forth, Back}
+
+-- the round keys from the last to the first, as words and as bits
+onto : (f : ℕ → List ℕ) (xs ys : List ℕ) → map f (reverse_aux xs ys) ≡ reverse_aux (map f xs) (map f ys)
+onto f [] ys = refl
+onto f (x ∷ xs) ys = onto f xs (x ∷ ys)
+
+pub map_reversed : (f : ℕ → List ℕ) (xs : List ℕ) → map f (reverse xs) ≡ reverse (map f xs)
+map_reversed f xs = onto f xs []
 
 abbrev pub both : ℕ → ℕ → Halves
 both l r = record { left = bits 32 l; right = bits 32 r }
@@ -21,19 +26,6 @@ rounds_none x l r el er =
     ∙ ap (both (x / 4294967296)) er
     ∙ ap (λ y. record { left = bits 32 (x / 4294967296); right = y }) (bits_mod 32 x ∙ sym (drop_bits 32 32 x))
     ∙ ap (λ y. record { left = y; right = drop 32 (bits 64 x) }) (sym (take_bits 32 32 x))
-
-pub length_ordered : (o : Order) (keys : List ℕ) → length (ordered o (map (bits 48) keys)) ≡ length keys
-length_ordered Forth keys = length-map keys (bits 48)
-length_ordered Back keys = length-reverse (map (bits 48) keys) ∙ length-map keys (bits 48)
-
-pub ordered_at : (o : Order) (keys : List ℕ) (i : ℕ) → length keys ≡ 16 → i < 16 → get_or (ordered o (map (bits 48) keys)) i [] ≡ bits 48 (key_at o keys i)
-ordered_at Forth keys i l h = let g : i < length keys = omega arith in get_or-map (bits 48) keys i 0 [] g
-ordered_at Back keys i l h =
-    let ks : List (List ℕ) = map (bits 48) keys in
-    let n : length ks ≡ 16 = length-map keys (bits 48) ∙ l in
-    let g : 15 - i < length keys = omega arith in
-    let m : length ks - 1 - i ≡ 15 - i = omega arith in
-    get_or-reverse ks i [] (omega arith) ∙ ap (λ k. get_or ks k []) m ∙ get_or-map (bits 48) keys (15 - i) 0 [] g
 
 -- one round more
 pub rounds_more : (ks : List (List ℕ)) (i l r m n g k : ℕ) (t : Halves) → m ≡ r → n ≡ bit_xor l g → i < length ks → get_or ks i [] ≡ bits 48 k → bits 32 g ≡ mixed (bits 32 r) (bits 48 k)

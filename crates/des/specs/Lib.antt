@@ -1,7 +1,6 @@
 pub mod Feistel
 pub mod Schedule
 pub mod Des
-pub mod Order
 pub mod Places
 pub mod Permutation
 pub mod Undo

@@ -7,7 +7,6 @@ ghost use Rattle.des.specs.Permutation.{ciphered_permutes};
 ghost use Rattle.std.proofs.Common.{inl};
 
 use crate::octets::read;
-use crate::order::Order;
 use crate::rounds::apply;
 use crate::schedule::expand;
 use cipher::BlockCipher;
@@ -25,9 +24,9 @@ impl Des {
         ensures decrypts { (b : List ℕ) → decrypts result.keys b ≡ des_decrypt key.now b }
         ensures parity { (other : List ℕ) → ByteBlock 8 other → SameButParity other key.now → (b : List ℕ) → (des_encrypt other b ≡ encrypts result.keys b) × (des_decrypt other b ≡ decrypts result.keys b) }
     {
-        let mut keys = [0u64; 16];
-        expand(read(key), &mut keys);
-        Des { keys }
+        Des {
+            keys: expand(read(key)),
+        }
     }
 }
 
@@ -49,10 +48,16 @@ impl BlockCipher for Des {
     }
 
     fn encrypt(&self, block: &mut [u8]) {
-        apply(&self.keys, Order::Forth, block);
+        if let Some(block) = block.as_mut_array() {
+            *block = apply(&self.keys, block);
+        }
     }
 
     fn decrypt(&self, block: &mut [u8]) {
-        apply(&self.keys, Order::Back, block);
+        let mut keys = self.keys;
+        keys.reverse();
+        if let Some(block) = block.as_mut_array() {
+            *block = apply(&keys, block);
+        }
     }
 }

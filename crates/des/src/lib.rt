@@ -5,7 +5,6 @@ mod block;
 mod choose;
 mod des;
 mod octets;
-mod order;
 mod permute;
 mod places;
 mod round;

@@ -1,21 +1,17 @@
 // Blocks and keys of eight bytes as words, the highest byte first.
-ghost use Rattle.std.specs.Prelude.{◌≡◌, length};
+ghost use Rattle.std.specs.Prelude.{◌≡◌};
 ghost use Rattle.byte_lists.specs.Numbers.{octets, number};
 
 // The word that eight bytes make.
-pub fn read(block: &[u8]) -> u64
-    requires { length block.now ≡ 8 }
-    ensures { result ≡ number block.now }
+pub fn read(bytes: &[u8; 8]) -> u64
+    ensures { result ≡ number bytes.now }
 {
-    u64::from_be_bytes([
-        block[0], block[1], block[2], block[3], block[4], block[5], block[6], block[7],
-    ])
+    u64::from_be_bytes(*bytes)
 }
 
-// Writes the eight bytes of a word.
-pub fn write(word: u64, block: &mut [u8])
-    requires { length block.old ≡ 8 }
-    ensures { block.new ≡ octets 8 word }
+// The eight bytes of a word.
+pub fn written(word: u64) -> [u8; 8]
+    ensures { result ≡ octets 8 word }
 {
-    block.copy_from_slice(&word.to_be_bytes());
+    word.to_be_bytes()
 }

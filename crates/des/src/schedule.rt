@@ -1,21 +1,11 @@
 // The key schedule: sixteen round keys from a key.
-ghost use Rattle.std.specs.Prelude.{◌≡◌, ◌+◌, ◌*◌, ◌^◌, ◌<◌, ◌≤◌, map, length, slice_index};
+ghost use Rattle.std.specs.Prelude.{◌≡◌, ◌+◌, ◌*◌, ◌^◌, ◌<◌, ◌≤◌, map};
 ghost use Rattle.des_tables.specs.Bits.{bits};
-ghost use Rattle.des_tables.specs.Tables.{shifts};
 ghost use Rattle.des.specs.Schedule.{shifted, schedule};
 
 use crate::choose::{first_choice, second_choice};
 
 const SHIFTS: [u32; 16] = [1, 1, 2, 2, 2, 2, 2, 2, 1, 2, 2, 2, 2, 2, 2, 1];
-
-// How far C and D are shifted for the round `i`, counted from 0.
-fn shift_of(i: usize) -> u32
-    requires { i < 16 }
-    ensures is { result ≡ slice_index shifts i }
-    ensures few { result ≤ 2 }
-{
-    SHIFTS[i]
-}
 
 // A half of 28 bits shifted to the left; what leaves comes in at the right.
 fn shift(half: u64, by: u32) -> u64
@@ -35,18 +25,18 @@ fn joined(c: u64, d: u64) -> u64
     c * 0x1000_0000 + d
 }
 
-// Writes the round keys of a key.
-pub fn expand(key: u64, keys: &mut [u64])
-    requires { length keys.old ≡ 16 }
-    ensures { map (bits 48) keys.new ≡ schedule (bits 64 key) }
+// The round keys of a key.
+pub fn expand(key: u64) -> [u64; 16]
+    ensures { map (bits 48) result ≡ schedule (bits 64 key) }
 {
     let halves = first_choice(key);
     let mut c = halves / 0x1000_0000;
     let mut d = halves % 0x1000_0000;
-    for i in 0..16usize {
-        let by = shift_of(i);
-        c = shift(c, by);
-        d = shift(d, by);
+    let mut keys = [0u64; 16];
+    for (i, by) in SHIFTS.iter().enumerate() {
+        c = shift(c, *by);
+        d = shift(d, *by);
         keys[i] = second_choice(joined(c, d));
     }
+    keys
 }

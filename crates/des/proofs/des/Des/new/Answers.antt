@@ -11,11 +11,11 @@ pub returns : goal.returns
 returns c =
     let key : List ℕ = c.args.key.now in
     let block : Block 8 key = (c.told-key, c.fits-key) in
-    let made : map (bits 48) c.expand.new.keys ≡ schedule (bits 64 (number key)) = c.expand.ensures ∙ ap (λ x. schedule (bits 64 x)) c.read.ensures in
+    let made : map (bits 48) c.expand.result ≡ schedule (bits 64 (number key)) = c.expand.ensures ∙ ap (λ x. schedule (bits 64 x)) c.read.ensures in
     record {
       encrypts = λ b. ap (λ ks. ciphered ks b) made;
       decrypts = λ b. ap (λ ks. ciphered (reverse ks) b) made;
       parity = λ other h e b.
-          let same : schedule (bits 64 (number other)) ≡ map (bits 48) c.expand.new.keys = schedule_parity other key h block e ∙ sym made in
+          let same : schedule (bits 64 (number other)) ≡ map (bits 48) c.expand.result = schedule_parity other key h block e ∙ sym made in
           (ap (λ ks. ciphered ks b) same, ap (λ ks. ciphered (reverse ks) b) same);
     }
