@@ -3,6 +3,7 @@
 
 mod body;
 mod command;
+mod kind;
 mod read;
 mod reply;
 mod status;
@@ -10,5 +11,6 @@ mod words;
 
 pub use body::{Body, Data, Le};
 pub use command::Apdu;
+pub use kind::Kind;
 pub use reply::{put_reply, put_status};
 pub use status::{NoSuchStatus, Status};
