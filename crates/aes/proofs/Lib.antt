@@ -5,3 +5,4 @@ pub mod Rounds
 pub mod Schedule
 pub mod Examples
 pub mod Permutation
+pub mod Chunks

@@ -1,5 +1,5 @@
 -- The key expansion, word by word.
-use Rattle.std.proofs.Common.{◌≡◌, ℕ, ◌+◌, ◌-◌, ◌<◌, ◌≤◌, eqb, List, [], ◌∷◌, ◌++◌, map, length, get_or, take, drop, set, sym, refl, ap, ◌∙◌, add-one, arith, lit<, eqb→eq, length-take}
+use Rattle.std.proofs.Common.{◌≡◌, ℕ, ◌+◌, ◌-◌, ◌<◌, ◌≤◌, eqb, List, [], ◌∷◌, ◌++◌, map, length, get_or, take, set, sym, refl, ap, ◌∙◌, add-one, arith, lit<, eqb→eq, length-take}
 use lib.Bits.{bit_xor}
 use Rattle.std.specs.List.{range_with_len}
 use Rattle.std.proofs.lemmas.List.{drop_more, take_more_set, get_or-take, append-nil}
@@ -9,7 +9,7 @@ use Rattle.byte_lists.proofs.Tables.{every_at, small_at}
 use Rattle.aes.specs.KeyExpansion.{word, x_power, rcon, joining, extended}
 use Rattle.aes.specs.Words.{bytes_of}
 use Rattle.aes.proofs.WordBytes.{octets_xor, made, octets_made}
-use Rattle.aes.specs.Parts.{quarters, bytes_dropped, bytes_joined}
+use Rattle.aes.specs.Parts.{bytes_dropped, bytes_joined}
 
 word_of : (ws : List ℕ) (i : ℕ) → i < length ws → word (bytes_of ws) i ≡ octets 4 (get_or ws i 0)
 unfolding octets
@@ -54,10 +54,5 @@ constant_made r x lo hi e =
     ∙ ap (λ y. y ∷ 0 ∷ 0 ∷ 0 ∷ []) (x_powers_at (r - 1) (omega arith))
 
 -- The first four words are the key.
-pub key_words : (key ws rest : List ℕ) (a b c d : ℕ) → length key ≡ 16 → ws ≡ a ∷ b ∷ c ∷ d ∷ []
-    → octets 4 a ≡ take 4 (drop 0 key) → octets 4 b ≡ take 4 (drop 4 key) → octets 4 c ≡ take 4 (drop 8 key) → octets 4 d ≡ take 4 (drop 12 key)
-    → bytes_of (take 4 (ws ++ rest)) ≡ extended key 0
-key_words key ws rest a b c d h e p q r s =
-    let whole = quarters key h in
-    let made_up : octets 4 a ++ (octets 4 b ++ (octets 4 c ++ (octets 4 d ++ []))) ≡ key = cc in
-    ap (λ y. bytes_of (take 4 (y ++ rest))) e ∙ made_up ∙ extended_none key
+pub key_words : (key ws rest : List ℕ) (a b c d : ℕ) → ws ≡ a ∷ b ∷ c ∷ d ∷ [] → bytes_of (a ∷ b ∷ c ∷ d ∷ []) ≡ key → bytes_of (take 4 (ws ++ rest)) ≡ extended key 0
+key_words key ws rest a b c d e m = ap (λ y. bytes_of (take 4 (y ++ rest))) e ∙ m ∙ extended_none key

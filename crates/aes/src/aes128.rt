@@ -25,9 +25,7 @@ impl Aes128 {
         ensures encrypts { encrypted (bytes_of result.keys) ≡ aes_encrypt key.now }
         ensures decrypts { decrypted (bytes_of result.keys) ≡ aes_decrypt key.now }
     {
-        let mut keys = [0u32; 44];
-        expand(key, &mut keys);
-        Aes128 { keys }
+        Aes128 { keys: expand(key) }
     }
 }
 
@@ -52,11 +50,15 @@ impl BlockCipher for Aes128 {
     }
 
     fn encrypt(&self, block: &mut [u8]) {
-        encrypt_block(&self.keys, block);
+        if let Some(block) = block.as_mut_array() {
+            encrypt_block(&self.keys, block);
+        }
     }
 
     fn decrypt(&self, block: &mut [u8]) {
-        decrypt_block(&self.keys, block);
+        if let Some(block) = block.as_mut_array() {
+            decrypt_block(&self.keys, block);
+        }
     }
 }
 

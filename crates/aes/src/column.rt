@@ -1,9 +1,9 @@
 // One column of the state: its rows, and the steps of a round on it.
-ghost use Rattle.std.specs.Prelude.{◌≡◌, ◌<◌, ◌≤◌, slice_index};
+ghost use Rattle.std.specs.Prelude.{◌≡◌, ℕ, ◌<◌, ◌≤◌, List, map, slice_index};
 ghost use Rattle.byte_lists.specs.Bytes.{xors};
 ghost use Rattle.byte_lists.specs.Numbers.{octets};
 ghost use Rattle.aes.specs.Steps.{sub_bytes, mix_columns, inv_sub_bytes, inv_mix_columns};
-ghost use Rattle.aes.specs.Words.{turned, gathered};
+ghost use Rattle.aes.specs.Words.{turned, gathered, looked_up};
 
 use sbox::{inv_mix, inv_sub_byte, sub_byte, sub_mix};
 
@@ -40,28 +40,44 @@ fn turned_sum(a: u32, b: u32, c: u32, d: u32) -> u32
     )
 }
 
+// The sum of what `find` finds for one row of each of four columns, each turned right by one byte more than the one before.
+fn products<F: Fn(u8) -> u32>(a: u32, b: u32, c: u32, d: u32, find: F) -> u32
+    requires { F.IsAlwaysCallable find }
+    ensures { (g : ℕ → List ℕ) → ((x y : ℕ) → x < 256 → F.post find x y → octets 4 y ≡ g x) → octets 4 result ≡ looked_up g (gathered a b c d) }
+{
+    turned_sum(
+        find(byte_in(a, 0)),
+        find(byte_in(b, 1)),
+        find(byte_in(c, 2)),
+        find(byte_in(d, 3)),
+    )
+}
+
+// The column of what `put` puts for one row of each of four.
+fn replaced<F: Fn(u8) -> u8>(a: u32, b: u32, c: u32, d: u32, put: F) -> u32
+    requires { F.IsAlwaysCallable put }
+    ensures { (g : ℕ → ℕ) → ((x y : ℕ) → x < 256 → F.post put x y → y ≡ g x) → octets 4 result ≡ map g (gathered a b c d) }
+{
+    u32::from_be_bytes([
+        put(byte_in(a, 0)),
+        put(byte_in(b, 1)),
+        put(byte_in(c, 2)),
+        put(byte_in(d, 3)),
+    ])
+}
+
 // SubBytes and MixColumns of the column that takes a row from each of four.
 pub fn sub_mixed(a: u32, b: u32, c: u32, d: u32) -> u32
     ensures { octets 4 result ≡ mix_columns (sub_bytes (gathered a b c d)) }
 {
-    turned_sum(
-        sub_mix(byte_in(a, 0)),
-        sub_mix(byte_in(b, 1)),
-        sub_mix(byte_in(c, 2)),
-        sub_mix(byte_in(d, 3)),
-    )
+    products(a, b, c, d, |x| sub_mix(x))
 }
 
 // SubBytes of the column that takes a row from each of four.
 pub fn substituted(a: u32, b: u32, c: u32, d: u32) -> u32
     ensures { octets 4 result ≡ sub_bytes (gathered a b c d) }
 {
-    u32::from_be_bytes([
-        sub_byte(byte_in(a, 0)),
-        sub_byte(byte_in(b, 1)),
-        sub_byte(byte_in(c, 2)),
-        sub_byte(byte_in(d, 3)),
-    ])
+    replaced(a, b, c, d, |x| sub_byte(x))
 }
 
 // SubBytes of a column.
@@ -75,22 +91,12 @@ pub fn sub_word(word: u32) -> u32
 pub fn inv_substituted(a: u32, b: u32, c: u32, d: u32) -> u32
     ensures { octets 4 result ≡ inv_sub_bytes (gathered a b c d) }
 {
-    u32::from_be_bytes([
-        inv_sub_byte(byte_in(a, 0)),
-        inv_sub_byte(byte_in(b, 1)),
-        inv_sub_byte(byte_in(c, 2)),
-        inv_sub_byte(byte_in(d, 3)),
-    ])
+    replaced(a, b, c, d, |x| inv_sub_byte(x))
 }
 
 // InvMixColumns of a column.
 pub fn inv_mixed(column: u32) -> u32
     ensures { octets 4 result ≡ inv_mix_columns (octets 4 column) }
 {
-    turned_sum(
-        inv_mix(byte_in(column, 0)),
-        inv_mix(byte_in(column, 1)),
-        inv_mix(byte_in(column, 2)),
-        inv_mix(byte_in(column, 3)),
-    )
+    products(column, column, column, column, |x| inv_mix(x))
 }

@@ -1,5 +1,5 @@
 // KeyExpansion: 44 words from the four of the key.
-ghost use Rattle.std.specs.Prelude.{◌≡◌, ◌<◌, ◌≤◌, length};
+ghost use Rattle.std.specs.Prelude.{◌≡◌, ◌<◌, ◌≤◌};
 ghost use Rattle.byte_lists.specs.Bytes.{xors};
 ghost use Rattle.byte_lists.specs.Numbers.{octets};
 ghost use Rattle.aes.specs.Steps.{sub_bytes};
@@ -7,7 +7,7 @@ ghost use Rattle.aes.specs.KeyExpansion.{rot_word, rcon, joining, key_expansion}
 ghost use Rattle.aes.specs.Words.{bytes_of};
 
 use crate::column::{added, sub_word, turned_right};
-use crate::transfer::word_at;
+use crate::transfer::state_of;
 
 // The powers of x from 0.
 const RCON: [u8; 10] = [0x01, 0x02, 0x04, 0x08, 0x10, 0x20, 0x40, 0x80, 0x1b, 0x36];
@@ -47,18 +47,15 @@ fn joining_word(i: usize, before: u32) -> u32
     }
 }
 
-// Writes the expanded key.
-pub fn expand(key: &[u8], keys: &mut [u32])
-    requires { (length key.now ≡ 16) × (length keys.old ≡ 44) }
-    ensures { bytes_of keys.new ≡ key_expansion key.now }
+// The expanded key.
+pub fn expand(key: &[u8; 16]) -> [u32; 44]
+    ensures { bytes_of result ≡ key_expansion key.now }
 {
-    keys[0..4].copy_from_slice(&[
-        word_at(key, 0),
-        word_at(key, 4),
-        word_at(key, 8),
-        word_at(key, 12),
-    ]);
+    let first = state_of(key);
+    let mut keys = [0u32; 44];
+    keys[0..4].copy_from_slice(&[first.c0, first.c1, first.c2, first.c3]);
     for n in 0..40usize {
         keys[n + 4] = keys[n] ^ joining_word(n + 4, keys[n + 3]);
     }
+    keys
 }

@@ -9,7 +9,7 @@ pub struct Block {
 }
 
 impl Block {
-    // A word cut into its halves.
+    // A word cut into its halves; no `From`, which would say less than these two equations.
     pub fn cut(word: u64) -> Block
         ensures left { result.left ≡ word / 2 ^ 32 }
         ensures right { result.right ≡ word % 2 ^ 32 }

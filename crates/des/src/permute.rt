@@ -22,7 +22,7 @@ pub fn initial(block: u64) -> u64
     exchange(d, 33, 0x5555_5555)
 }
 
-// Its inverse.
+// Its inverse: written out, as a loop back through a table of five pairs is no shorter.
 pub fn last(block: u64) -> u64
     ensures { result ≡ final_word block }
 {

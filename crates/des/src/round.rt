@@ -28,6 +28,7 @@ pub fn mix(half: u32, key: u64) -> u32
 {
     let wide = wrap(half);
     let mut out = 0u32;
+    // By number: a box, its window and its six bits of the key stand in three places, and no list holds them.
     for i in 0..8u32 {
         let v = window(wide, key, i);
         out ^= entry(i as usize, v as usize);

@@ -4,5 +4,5 @@ use Rattle.aes.specs.Columns.{state_bytes}
 use Rattle.aes.specs.Words.{bytes_of}
 use Rattle.aes.proofs.blocks.encrypt_block.Given as goal
 
-abbrev pub invariant-loop-i : goal.invariant-loop-i
-invariant-loop-i l = state_bytes l.s ≡ rounds (bytes_of l.keys) l.i (state_bytes l.initial.s)
+abbrev pub invariant-loop-key : goal.invariant-loop-key
+invariant-loop-key l = state_bytes l.s ≡ rounds (bytes_of l.keys) l.key-index (state_bytes l.initial.s)

@@ -1,0 +1,10 @@
+use Rattle.std.proofs.Common.{ap, ◌∙◌, rules}
+use Rattle.byte_lists.specs.Bytes.{xors}
+use Rattle.aes.specs.Steps.{sub_bytes}
+use Rattle.aes.specs.Words.{bytes_of}
+use Rattle.aes.proofs.FourColumns.{plain_columns}
+use Rattle.aes.proofs.round.last_forward.Goals as goal
+
+pub returns : goal.returns
+returns c =
+    c.add_round_key.ensures ∙ ap (λ y. xors y (bytes_of c.args.key.now)) (c.shifted.ensures sub_bytes (λ a b x d y p. search rules) ∙ plain_columns c.args.s)
