@@ -1,26 +1,16 @@
 // Decimal numbers.
 ghost use Rattle.std.specs.Prelude.{◌≡◌, ◌≤◌, [], ◌∷◌, IfSome};
-ghost use Rattle.numerals.specs.Decimal.{digits, numeral, plain, upto};
+ghost use Rattle.numerals.specs.Decimal.{digits, numeral, upto};
 
 // The number that `text` writes: decimal digits alone, at least one, no zero in front of another, at most `top`.
 pub fn read_decimal(text: &[u8], top: u64) -> Option<u64>
     ensures value { result ≡ numeral top text.now }
     ensures within { IfSome result (λ n. n ≤ top) }
 {
-    if !is_plain(text) {
-        return None;
+    match text {
+        [] | [b'0', _, ..] => None,
+        _ => read_digits(text, top),
     }
-    read_digits(text, top)
-}
-
-// Not empty, and no zero in front.
-fn is_plain(text: &[u8]) -> bool
-    ensures { result ≡ plain text.now }
-{
-    if text.len() > 1 {
-        return text[0] != b'0';
-    }
-    text.len() == 1
 }
 
 // The value of a row of digits, never above `top`.
@@ -28,12 +18,9 @@ fn read_digits(text: &[u8], top: u64) -> Option<u64>
     ensures value { result ≡ upto top (digits 0 text.now) }
     ensures within { IfSome result (λ n. n ≤ top) }
 {
-    let mut value = 0u64;
+    let mut value = 0;
     for c in text {
-        let Some(next) = with_digit(value, *c, top) else {
-            return None;
-        };
-        value = next;
+        value = with_digit(value, *c, top)?;
     }
     Some(value)
 }
@@ -47,8 +34,5 @@ fn with_digit(value: u64, c: u8, top: u64) -> Option<u64>
     }
     let tens = value.checked_mul(10)?;
     let next = tens.checked_add(u64::from(c - b'0'))?;
-    if next > top {
-        return None;
-    }
-    Some(next)
+    if next > top { None } else { Some(next) }
 }

@@ -1,32 +1,28 @@
 // Bytes as pairs of hexadecimal digits.
-ghost use Rattle.std.specs.Prelude.{◌≡◌, ◌*◌, ◌<◌, length, IfSome};
+ghost use Rattle.std.specs.Prelude.{◌≡◌, ◌*◌, ◌<◌, length, is_some, IfSome};
 ghost use Rattle.numerals.specs.Hexadecimal.{digit, sized, unhex, when};
 
-// Fills `bytes` from pairs of digits 0-9 A-F; false where `text` is anything but so many pairs.
-pub fn read_hexadecimal(text: &[u8], bytes: &mut [u8]) -> bool
-    ensures { when result bytes.new ≡ sized (length bytes.old) (length bytes.old) (unhex text.now) }
+// Fills `bytes` from pairs of digits 0-9 A-F; nothing where `text` is anything but so many pairs.
+pub fn read_hexadecimal(text: &[u8], bytes: &mut [u8]) -> Option<()>
+    ensures { when (is_some result) bytes.new ≡ sized (length bytes.old) (length bytes.old) (unhex text.now) }
 {
     if text.len() % 2 != 0 || text.len() / 2 != bytes.len() {
-        return false;
+        return None;
     }
     fill(text, bytes)
 }
 
-// Fills `bytes` from as many pairs of digits; false where one is no digit.
-fn fill(text: &[u8], bytes: &mut [u8]) -> bool
+// Fills `bytes` from as many pairs of digits; nothing where one is no digit.
+fn fill(text: &[u8], bytes: &mut [u8]) -> Option<()>
     requires { length text.now ≡ 2 * length bytes.old }
-    ensures { when result bytes.new ≡ unhex text.now }
+    ensures { when (is_some result) bytes.new ≡ unhex text.now }
 {
-    for i in 0..bytes.len() {
-        let Some(high) = digit_value(text[2 * i]) else {
-            return false;
-        };
-        let Some(low) = digit_value(text[2 * i + 1]) else {
-            return false;
-        };
-        bytes[i] = 16 * high + low;
+    for (i, byte) in bytes.iter_mut().enumerate() {
+        let high = digit_value(text[2 * i])?;
+        let low = digit_value(text[2 * i + 1])?;
+        *byte = 16 * high + low;
     }
-    true
+    Some(())
 }
 
 // The value of one digit, 0-9 or A-F.

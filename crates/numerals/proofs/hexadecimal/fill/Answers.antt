@@ -6,24 +6,24 @@ use Rattle.numerals.proofs.hexadecimal.fill.Goals as goal
 pub loop-i-init : goal.loop-i-init
 loop-i-init c = behind_none (unhex c.args.text.now)
 
-pub returns-in_default : goal.returns-in_default
-returns-in_default c =
+pub returns-in_err-high : goal.returns-in_err-high
+returns-in_err-high c =
     let i = c.loop-i.i in
     let h : 2 * i + 1 < length c.args.text.now = omega (arith, c.requires) in
-    sym (ap (behind (take i c.loop-i.bytes)) (stops_high c.args.text.now i h c.in_default.ensures.value)) ∙ c.loop-i.invariant
+    rw c.from_residual.ensures (sym (ap (behind (take i c.loop-i.bytes)) (stops_high c.args.text.now i h c.in_err-high.ensures.value)) ∙ c.loop-i.invariant)
 
-pub returns-in_default-digit_value : goal.returns-in_default-digit_value
-returns-in_default-digit_value c =
+pub returns-in_err-low : goal.returns-in_err-low
+returns-in_err-low c =
     let i = c.loop-i.i in
     let h : 2 * i + 1 < length c.args.text.now = omega (arith, c.requires) in
-    sym (ap (behind (take i c.loop-i.bytes)) (stops_low c.args.text.now i c.in-Some.high h c.in-Some.ensures.value c.in_default-digit_value.ensures.value)) ∙ c.loop-i.invariant
+    rw c.from_residual-in_err-low.ensures (sym (ap (behind (take i c.loop-i.bytes)) (stops_low c.args.text.now i c.in_ok-high.high h c.in_ok-high.ensures.value c.in_err-low.ensures.value)) ∙ c.loop-i.invariant)
 
 pub loop-i-preserved : goal.loop-i-preserved
 loop-i-preserved c =
     let i = c.loop-i.i in
     let h : 2 * i + 1 < length c.args.text.now = omega (arith, c.requires) in
     let g : i < length c.loop-i.bytes = omega (arith, c.loop-i.auto.bytes) in
-    sym (goes_on c.args.text.now c.loop-i.bytes i c.in-Some.high c.in-Some-digit_value.low h g c.in-Some.ensures.value c.in-Some-digit_value.ensures.value) ∙ c.loop-i.invariant
+    sym (goes_on c.args.text.now c.loop-i.bytes i c.in_ok-high.high c.in_ok-low.low h g c.in_ok-high.ensures.value c.in_ok-low.ensures.value) ∙ c.loop-i.invariant
 
 pub returns : goal.returns
 returns c = sym (all_filled c.args.text.now c.loop-i.bytes c.loop-i.i (omega (arith, c.requires, c.loop-i.auto.bytes)) (omega (arith, c.loop-i.auto.bytes))) ∙ c.loop-i.invariant
