@@ -7,7 +7,7 @@ ghost use Rattle.request.specs.View.{kind_of, asks, Formed};
 
 use crate::request::{Block, Discard, Fetch, Request};
 use apdu::{Apdu, Body, Kind};
-use rows::Row;
+use table_rows::Row;
 
 impl<'a> Request<'a> {
     // A discovery, by P2.
