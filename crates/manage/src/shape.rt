@@ -14,7 +14,7 @@ pub fn le_alone(body: Body<'_>) -> Option<u16>
     ensures within { IfSome result (λ n. n ≤ 256) }
 {
     match body {
-        Body::Le(most) => Some(most),
+        Body::Le(le) => Some(le.wanted),
         Body::Bare | Body::Data(_) | Body::Both(_, _) => None,
     }
 }
@@ -26,7 +26,7 @@ pub fn data_alone<'a>(body: Body<'a>) -> Option<&'a [u8]>
     ensures within { IfSome result (λ d. length d.now ≤ 255) }
 {
     match body {
-        Body::Data(part) => Some(part),
+        Body::Data(part) => Some(part.bytes),
         Body::Bare | Body::Le(_) | Body::Both(_, _) => None,
     }
 }

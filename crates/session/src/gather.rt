@@ -18,7 +18,7 @@ impl Block {
         ensures { result ≡ repeats (answered (block_of self.now)) p2 (shape_of body.entry) }
     {
         match body {
-            Body::Data(bytes) => self.is(p2, bytes),
+            Body::Data(data) => self.is(p2, data.bytes),
             Body::Bare => false,
             Body::Le(_) => false,
             Body::Both(_, _) => false,
@@ -31,7 +31,7 @@ pub fn contents<'a>(container: u8, body: Body<'a>) -> Option<&'a [u8]>
     ensures { option_map (λ x. x.now) result ≡ contents container (shape_of body.entry) }
 {
     match body {
-        Body::Data(bytes) if bytes.len() <= usize::from(container) => Some(bytes),
+        Body::Data(data) if data.bytes.len() <= usize::from(container) => Some(data.bytes),
         Body::Data(_) => None,
         Body::Bare => None,
         Body::Le(_) => None,

@@ -40,7 +40,7 @@ fn is_enough(len: usize, body: Body<'_>) -> bool
     ensures { result ≡ enough len (shape_of body.entry) }
 {
     match body {
-        Body::Le(most) => len <= usize::from(most),
+        Body::Le(le) => len <= usize::from(le.wanted),
         Body::Bare => false,
         Body::Data(_) => false,
         Body::Both(_, _) => false,
