@@ -1,6 +1,5 @@
 -- The code's types, as the rules speak of them.
 use Rattle.apdu.specs.View.{shape_of}
-use Rattle.apdu.specs.Writing.{Proper}
 use Rattle.law.specs.Request as line
 use Rattle.apdu.specs.declared.kind.Kind.{Kind}
 use Rattle.apdu.specs.declared.kind.Kind.TheVariants.{Discovery, Master, Connection, Start, Terminate}
@@ -26,17 +25,3 @@ asks (GoOn k b) = line.go_on (kind_of k) (shape_of b)
 asks (Block b) = line.block b.row b.p2 (shape_of b.body)
 asks (Fetch f) = line.fetch f.row f.number (shape_of f.body)
 asks (Discard d) = line.discard d.row (shape_of d.body)
-
--- A request is well formed: data has 1 to 255 bytes, and Le asks for 1 to 256. (Its row is one of the four by its type.)
-abbrev pub Formed : Request → Type 0
-Formed (Block b) = Proper (shape_of b.body)
-Formed (Fetch f) = Proper (shape_of f.body)
-Formed (Discard d) = Proper (shape_of d.body)
-Formed Malformed = Unit {0}
-Formed Other = Unit {0}
-Formed Unlisted = Unit {0}
-Formed (Begin k b) = Proper (shape_of b)
-Formed (Continue k b) = Proper (shape_of b)
-Formed (Discover b) = Proper (shape_of b)
-Formed (Answer k b) = Proper (shape_of b)
-Formed (GoOn k b) = Proper (shape_of b)

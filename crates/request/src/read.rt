@@ -1,20 +1,17 @@
 // Reading what an APDU asks of the card.
 ghost use Rattle.std.specs.Prelude.{◌≡◌, Some};
 ghost use Rattle.apdu.specs.View.{shape_of, command_of};
-ghost use Rattle.apdu.specs.Writing.{Proper};
 ghost use Rattle.law.specs.Request.{discovers, terminates, by_p2, manages, transacts, by_header, request};
-ghost use Rattle.request.specs.View.{kind_of, asks, Formed};
+ghost use Rattle.request.specs.View.{kind_of, asks};
 
 use crate::request::{Block, Discard, Fetch, Request};
 use apdu::{Apdu, Body, Kind};
-use rows::Row;
+use table_rows::Row;
 
 impl<'a> Request<'a> {
     // A discovery, by P2.
     fn discovery(p2: u8, body: Body<'a>) -> Request<'a>
-        requires { Proper (shape_of body) }
-        ensures asks { asks result ≡ discovers p2 (shape_of body.entry) }
-        ensures formed { Formed result }
+        ensures { asks result ≡ discovers p2 (shape_of body.entry) }
     {
         match p2 {
             0xA0 => Request::Discover(body),
@@ -25,9 +22,7 @@ impl<'a> Request<'a> {
 
     // A termination, by P2.
     fn termination(p2: u8, body: Body<'a>) -> Request<'a>
-        requires { Proper (shape_of body) }
-        ensures asks { asks result ≡ terminates p2 (shape_of body.entry) }
-        ensures formed { Formed result }
+        ensures { asks result ≡ terminates p2 (shape_of body.entry) }
     {
         match p2 {
             0x80 => Request::Begin(Kind::Terminate, body),
@@ -38,9 +33,7 @@ impl<'a> Request<'a> {
 
     // A kind that has command and reply blocks, by P2.
     fn exchange(kind: Kind, p2: u8, body: Body<'a>) -> Request<'a>
-        requires { Proper (shape_of body) }
-        ensures asks { asks result ≡ by_p2 (kind_of kind) p2 (shape_of body.entry) }
-        ensures formed { Formed result }
+        ensures { asks result ≡ by_p2 (kind_of kind) p2 (shape_of body.entry) }
     {
         match p2 {
             0x80 => Request::Begin(kind, body),
@@ -53,9 +46,7 @@ impl<'a> Request<'a> {
 
     // MANAGE SECURE CHANNEL, by P1 and P2.
     fn manage(p1: u8, p2: u8, body: Body<'a>) -> Request<'a>
-        requires { Proper (shape_of body) }
-        ensures asks { asks result ≡ manages p1 p2 (shape_of body.entry) }
-        ensures formed { Formed result }
+        ensures { asks result ≡ manages p1 p2 (shape_of body.entry) }
     {
         match Kind::try_from(p1) {
             Ok(Kind::Discovery) => Request::discovery(p2, body),
@@ -67,9 +58,7 @@ impl<'a> Request<'a> {
 
     // TRANSACT DATA, by P1 and P2.
     fn transact(p1: u8, p2: u8, body: Body<'a>) -> Request<'a>
-        requires { Proper (shape_of body) }
-        ensures asks { asks result ≡ transacts p1 p2 (shape_of body.entry) }
-        ensures formed { Formed result }
+        ensures { asks result ≡ transacts p1 p2 (shape_of body.entry) }
     {
         let row = Row::of_p1(p1);
         match p1 % 64 {
@@ -86,9 +75,7 @@ impl<'a> Request<'a> {
 
     // What a command asks, by its header.
     fn by_header(command: Apdu<'a>) -> Request<'a>
-        requires { Proper (command_of command).shape }
-        ensures asks { asks result ≡ by_header (Some (command_of command.entry)) }
-        ensures formed { Formed result }
+        ensures { asks result ≡ by_header (Some (command_of command.entry)) }
     {
         if command.cla != 0x00 {
             return Request::Other;
@@ -102,9 +89,9 @@ impl<'a> Request<'a> {
 
     // Reads what an APDU asks of the card.
     pub fn read(apdu: &'a [u8]) -> Request<'a>
-        ensures asks { asks result ≡ request apdu.now }
-        ensures formed { Formed result }
+        ensures { asks result ≡ request apdu.now }
     {
+        // A match: the toolchain finds no proof of `map_or` here, where it is handed `by_header` as a function.
         match Apdu::read(apdu) {
             Some(command) => Request::by_header(command),
             None => Request::Malformed,

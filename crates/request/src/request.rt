@@ -1,6 +1,6 @@
 // What is asked, with what stands behind the header.
 use apdu::{Body, Kind};
-use rows::Row;
+use table_rows::Row;
 
 // A block of a session's command: the session's row, how many blocks follow, and what stands behind the header.
 #[derive(Clone, Copy)]

@@ -1,6 +1,11 @@
 -- What a loop over rows finds, seen as the rules see it.
-use Rattle.std.proofs.Common.{◌≡◌, ℕ, zero, suc, ◌<◌, Bool, true, false, List, [], ◌∷◌, map, length, get_or, Some, None, Option, refl, ap, ◌∙◌, arith}
+use Rattle.std.proofs.Common.{◌≡◌, ℕ, zero, suc, ◌<◌, ◌≤◌, Bool, true, false, List, [], ◌∷◌, map, length, get_or, Some, None, Option, sym, refl, ap, ◌∙◌, arith}
 use Rattle.std.specs.Option.{option_map}
+use Rattle.std.specs.List.{position, position_or_len}
+use Rattle.std.proofs.lemmas.Grind.{common_steps}
+use Rattle.std.proofs.lemmas.List.Quantifiers.{position-Some}
+use Rattle.std.proofs.lemmas.List.Sums.{fails_before_first}
+use Rattle.tables.specs.Retained.{passes}
 use Rattle.law.specs.Rows.{At, found, next_row, this_or}
 use Rattle.law.proofs.Rows.{no_some, found_none, found_first}
 
@@ -9,6 +14,10 @@ pub within : {X : Type 0} (l : List (Option X)) (k : ℕ) (x : X) → get_or l k
 within [] k x e = no_some e
 within (y ∷ l) zero x e = omega arith
 within (y ∷ l) (suc k) x e = let h = within l k x e in omega arith
+
+-- What is nowhere is at no place.
+pub past : {X : Type 0} (q : X → Bool) (l : List X) → position q l ≡ None → length l ≤ position_or_len q l
+past q l e = grind (arith, common_steps)
 
 module _ {X Y : Type 0} (f : X → Y) (p : Y → Bool) where
   abbrev seen_at : At X → At Y
@@ -33,3 +42,17 @@ module _ {X Y : Type 0} (f : X → Y) (p : Y → Bool) where
   pub seen_first : (l : List (Option X)) (i : ℕ) (x : X) → get_or l i None ≡ Some x → p (f x) ≡ true → ((k : ℕ) (y : X) → k < i → get_or l k None ≡ Some y → p (f y) ≡ false)
       → found p (map (option_map f) l) ≡ Some (record { row = i; item = f x })
   seen_first l i x e t h = found_seen l ∙ ap (λ (o : Option (At X)). option_map seen_at o) (found_first (λ x. p (f x)) l i x e t h)
+
+  abbrev pub named_so : Option X → Bool
+  named_so = passes (λ x. p (f x))
+
+  pub found_nowhere : (l : List (Option X)) → position named_so l ≡ None → found p (map (option_map f) l) ≡ None
+  found_nowhere l e =
+      seen_none l (λ k x lt h. sym (ap named_so h) ∙ fails_before_first named_so l k None (omega (arith, past named_so l e)))
+
+  pub found_at : (l : List (Option X)) (i j : ℕ) (x : X) → position named_so l ≡ Some i → get_or l i None ≡ Some x → j ≡ i
+      → Some (record { row = j; item = f x }) ≡ found p (map (option_map f) l)
+  found_at l i j x e h n =
+      let at = position-Some named_so l i None e in
+      ap (λ (k : ℕ). Some (seen_at (record { row = k; item = x }))) n
+      ∙ sym (seen_first l i x h (sym (ap named_so h) ∙ at.1) (λ k y lt g. sym (ap named_so g) ∙ at.2 k lt))

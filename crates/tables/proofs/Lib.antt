@@ -3,3 +3,4 @@ pub mod Smallest
 pub mod Kept
 pub mod Views
 pub mod Leaving
+pub mod Filtered

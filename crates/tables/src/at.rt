@@ -1,8 +1,9 @@
-// What a row holds, with the row's number.
+// What a row holds, with the row.
+use table_rows::Row;
 
-// The number of a held row, and what the row holds.
+// A held row, and what it holds.
 #[derive(Clone, Copy)]
 pub struct At<T> {
-    pub row: usize,
+    pub row: Row,
     pub item: T,
 }

@@ -24,6 +24,7 @@ impl Tables {
         ensures tables { tables_of self.new ≡ put_connections (tables_of self.old) free_rows }
         ensures answers { answers_of self.new ≡ [] ∷ [] ∷ [] ∷ [] ∷ [] }
     {
-        self.connections = [None; 4];
+        let free = [None; 4];
+        self.connections = free;
     }
 }

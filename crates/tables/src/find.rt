@@ -1,55 +1,59 @@
-// Finding what has a name, and the row that holds it.
-ghost use Rattle.std.specs.Prelude.{◌≡◌, ◌<◌, map, length, IfSome, Some, None, slice_index_or};
+// What a row holds, the row that holds what has a name, and the smallest free row.
+ghost use Rattle.std.specs.Prelude.{◌≡◌, IfSome, is_none, position, if◌then◌else◌, Some, None, slice_index_or};
 ghost use Rattle.std.specs.Option.{option_map};
-ghost use Rattle.std.specs.List.Sorted as slices;
-ghost use Rattle.law.specs.Rows.{found};
-ghost use Rattle.law.specs.Associate.{has_ref, has_msa, has_csa};
-ghost use Rattle.tables.specs.View.{at_of, key_of, master_of, connection_of, tables_of};
+ghost use Rattle.law.specs.Rows.{found, full, free};
+ghost use Rattle.tables.specs.Retained.{passes};
+ghost use Rattle.tables.specs.View.{at_of, tables_of};
 
 use crate::at::At;
 use crate::named::Named;
-use crate::rows::{Connection, Key, Master, Tables};
+use crate::rows::Tables;
+use table_rows::Row;
 
-// The first row whose item has this name.
-fn find<T: Named + Copy>(rows: &[Option<T>], name: &[u8]) -> Option<At<T>>
-    ensures found { option_map (at_of T.Named.seen) result ≡ found (T.Named.called name.now) (map (option_map T.Named.seen) rows.now) }
-    ensures held { IfSome result (λ a. (a.row < length rows.now) × (slice_index_or rows.now a.row None ≡ Some a.item)) }
+// The index of the first row whose item has this name.
+fn first_named<T: Named>(rows: &[Option<T>], name: &[u8]) -> Option<usize>
+    ensures { result ≡ position (passes (λ x. T.Named.called name.now (T.Named.seen x))) rows.now }
 {
-    for (i, row) in rows.iter().enumerate() {
-        if let Some(item) = row {
-            if item.is_called(name) {
-                return Some(At {
-                    row: i,
-                    item: *item,
-                });
-            }
-        }
-    }
-    None
+    rows.iter().position(
+        |held|
+            ensures { result ≡ passes (λ x. T.Named.called name.entry.now (T.Named.seen x)) held.now }
+        { held.is_some_and(|item| item.is_called(name)) },
+    )
+}
+
+// The index of the first row that holds nothing.
+fn first_free<T: Copy>(rows: &[Option<T>]) -> Option<usize>
+    ensures { result ≡ position (λ o. is_none o) rows.now }
+{
+    rows.iter().position(|held| held.is_none())
 }
 
 impl Tables {
-    // The key that is asked for by this reference.
-    pub fn key_named(&self, reference: &[u8]) -> Option<At<Key>>
-        ensures found { option_map (at_of key_of) result ≡ found (has_ref reference.now) (tables_of self.now).keys }
-        ensures held { IfSome result (λ a. (a.row < 4) × (slice_index_or self.now.keys a.row None ≡ Some a.item)) }
+    // What this row holds.
+    pub fn at<T: Named>(&self, row: Row) -> Option<T>
+        ensures held { result ≡ slice_index_or (T.Named.held_in self.now) row None }
+        ensures seen { option_map T.Named.seen result ≡ slice_index_or (T.Named.seen_in (tables_of self.now)) row None }
     {
-        find(&self.keys, reference)
+        T::rows(self).get(row.index()).copied().flatten()
     }
 
-    // The master with this identifier.
-    pub fn master_named(&self, id: &[u8]) -> Option<At<Master>>
-        ensures found { option_map (at_of master_of) result ≡ found (has_msa id.now) (tables_of self.now).masters }
-        ensures held { IfSome result (λ a. (a.row < 4) × (slice_index_or self.now.masters a.row None ≡ Some a.item)) }
+    // The first item that has this name, and its row.
+    pub fn named<T: Named>(&self, name: &[u8]) -> Option<At<T>>
+        ensures found { option_map (at_of T.Named.seen) result ≡ found (T.Named.called name.now) (T.Named.seen_in (tables_of self.now)) }
+        ensures held { IfSome result (λ a. slice_index_or (T.Named.held_in self.now) a.row None ≡ Some a.item) }
     {
-        find(&self.masters, id)
+        let rows = T::rows(self);
+        let index = first_named(rows, name)?;
+        Some(At {
+            row: Row::at(index)?,
+            item: rows[index]?,
+        })
     }
 
-    // The connection with this identifier.
-    pub fn connection_named(&self, id: &[u8]) -> Option<At<Connection>>
-        ensures found { option_map (at_of connection_of) result ≡ found (has_csa id.now) (tables_of self.now).connections }
-        ensures held { IfSome result (λ a. (a.row < 4) × (slice_index_or self.now.connections a.row None ≡ Some a.item)) }
+    // The row that a new item takes: the smallest that is free.
+    pub fn free<T: Named>(&self) -> Option<Row>
+        ensures { result ≡ (if full (T.Named.seen_in (tables_of self.now)) then None else Some (free (T.Named.seen_in (tables_of self.now)))) }
     {
-        find(&self.connections, id)
+        first_free(T::rows(self)).and_then(Row::at)
     }
 }

@@ -2,12 +2,9 @@
 #![tactic(auto)]
 
 mod at;
-mod count;
 mod empty;
 mod enter;
 mod find;
-mod free;
-mod item;
 mod limits;
 mod named;
 mod remove;
@@ -15,4 +12,5 @@ mod retain;
 mod rows;
 
 pub use at::At;
+pub use named::Named;
 pub use rows::{Connection, Key, Master, Tables};

@@ -1,24 +1,37 @@
 // What has a name by which it is found in its table.
-ghost use Rattle.std.specs.Prelude.{◌≡◌, ℕ, Bool, List};
+ghost use Rattle.std.specs.Prelude.{◌≡◌, ℕ, Bool, List, map, length, Option, refl};
+ghost use Rattle.std.specs.Option.{option_map};
 ghost use Rattle.law.specs.Associations as made;
 ghost use Rattle.law.specs.Tables as law;
 ghost use Rattle.law.specs.Associate.{has_ref, has_msa, has_csa};
-ghost use Rattle.tables.specs.View.{key_of, master_of, connection_of};
+ghost use Rattle.tables.specs.View.{key_of, master_of, connection_of, tables_of};
 
-use crate::rows::{Connection, Key, Master};
-use session::same_bytes;
+use crate::rows::{Connection, Key, Master, Tables};
 
-// A row's item: what the rules see of it, and whether that has a name.
-pub trait Named {
+// An item of a table: its table, what the rules see of the item and of the table, and whether it has a name.
+pub trait Named: Copy {
+    ghost use Rattle.tables.specs.declared.rows.Tables.{Tables};
+
     ghost Seen: { Type 0 };
 
     ghost seen: { Self → Seen };
 
     ghost called: { List ℕ → Seen → Bool };
 
+    ghost held_in: { Tables → List (Option Self) };
+
+    ghost seen_in: { law.Tables → List (Option Seen) };
+
     // Whether it has this name.
     fn is_called(&self, name: &[u8]) -> bool
         ensures { result ≡ called name.now (seen self.now) };
+
+    // The rows of its table.
+    fn rows(tables: &Tables) -> &[Option<Self>]
+        ensures is { result.now ≡ held_in tables.now }
+        ensures four { length result.now ≡ 4 };
+
+    ghost seen_rows: { (t : Tables) → seen_in (tables_of t) ≡ map (option_map seen) (held_in t) };
 }
 
 impl Named for Key {
@@ -28,9 +41,19 @@ impl Named for Key {
 
     ghost called = { has_ref };
 
+    ghost held_in = { λ t. t.keys };
+
+    ghost seen_in = { λ t. t.keys };
+
     fn is_called(&self, name: &[u8]) -> bool {
-        same_bytes(self.load.reference(), name)
+        self.load.reference() == name
     }
+
+    fn rows(tables: &Tables) -> &[Option<Key>] {
+        &tables.keys
+    }
+
+    ghost seen_rows = { λ t. refl };
 }
 
 impl Named for Master {
@@ -40,9 +63,19 @@ impl Named for Master {
 
     ghost called = { has_msa };
 
+    ghost held_in = { λ t. t.masters };
+
+    ghost seen_in = { λ t. t.masters };
+
     fn is_called(&self, name: &[u8]) -> bool {
-        same_bytes(&self.id, name)
+        &self.id[..] == name
     }
+
+    fn rows(tables: &Tables) -> &[Option<Master>] {
+        &tables.masters
+    }
+
+    ghost seen_rows = { λ t. refl };
 }
 
 impl Named for Connection {
@@ -52,7 +85,17 @@ impl Named for Connection {
 
     ghost called = { has_csa };
 
+    ghost held_in = { λ t. t.connections };
+
+    ghost seen_in = { λ t. t.connections };
+
     fn is_called(&self, name: &[u8]) -> bool {
-        same_bytes(&self.id, name)
+        &self.id[..] == name
     }
+
+    fn rows(tables: &Tables) -> &[Option<Connection>] {
+        &tables.connections
+    }
+
+    ghost seen_rows = { λ t. refl };
 }

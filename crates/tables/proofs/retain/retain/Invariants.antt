@@ -1,6 +1,8 @@
-use Rattle.std.proofs.Common.{◌≡◌, ◌++◌, map, take, drop}
+use Rattle.std.proofs.Common.{◌≡◌, ◌++◌, Bool, map, take, drop}
 use Rattle.tables.specs.Retained.{retained}
 use Rattle.tables.proofs.retain.retain.Given as goal
 
-abbrev pub invariant-loop-i : goal.invariant-loop-i
-invariant-loop-i g l = l.rows ≡ map (retained (g.P.Stays.holds l.test)) (take l.i l.initial.rows) ++ drop l.i l.initial.rows
+abbrev pub invariant-loop-row : goal.invariant-loop-row
+invariant-loop-row g l =
+    (p : _ → Bool) → ((x : _) (b : Bool) → goal.F-post g l.stays x b → b ≡ p x.now)
+    → l.rows ≡ map (retained p) (take l.row-index l.initial.rows) ++ drop l.row-index l.initial.rows

@@ -4,11 +4,12 @@ use Rattle.tables.proofs.Kept.{row_dropped}
 use Rattle.tables.proofs.Views.{tables_same, set_seen}
 use Rattle.tables.proofs.rows.Tables.remove_connection.Goals as goal
 
-pub returns : goal.returns
-returns c =
+pub returns-clause-tables : goal.returns-clause-tables
+returns-clause-tables c =
     let t = c.args.self.now in
-    record {
-      tables = tables_same (keys_of t.keys) (keys_of t.keys) (masters_of t.masters) (masters_of t.masters) _ _ refl refl
-          (set_seen connection_of t.connections c.args.row None None refl);
-      answers = row_dropped t.connections c.args.row None refl;
-    }
+    rw c.index.ensures.is
+    (tables_same (keys_of t.keys) (keys_of t.keys) (masters_of t.masters) (masters_of t.masters) _ _ refl refl
+    (set_seen connection_of t.connections c.args.row None None refl))
+
+pub returns-clause-answers : goal.returns-clause-answers
+returns-clause-answers c = row_dropped c.args.self.now.connections c.index.result None refl
