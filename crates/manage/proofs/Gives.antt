@@ -2,7 +2,7 @@
 use Rattle.std.proofs.Common.{◌≡◌, ℕ, ◌+◌, ◌^◌, ◌<◌, ◌≤◌, Bool, true, false, cond, List, ◌++◌, length, take, drop, sym, refl, ap, ◌∙◌, arith}
 use Rattle.std.proofs.lemmas.List.{length-take, length-drop}
 use Rattle.buffer.specs.Held.{held}
-use Rattle.buffer.specs.declared.Buffer.{Buffer}
+use Rattle.buffer.specs.declared.Store.{Store}
 use Rattle.apdu.specs.Reply.{reply, fronted}
 use Rattle.apdu.specs.StatusWords.{status_bytes}
 use Rattle.apdu.specs.declared.status.Status.{Status}
@@ -18,14 +18,14 @@ use Rattle.manage.specs.View.{core_of, Replied}
 use Rattle.manage.proofs.Stays.{stays}
 
 -- A core with something else pending.
-abbrev pub with_reply : Core → Kind → Buffer → ℕ → Core
+abbrev pub with_reply : Core → Kind → Store 288 → ℕ → Core
 with_reply c k z n = record { tables = c.tables; pending = pending.Reply (record { kind = k; reply = z; given = n }); failures = c.failures; required = c.required }
 
 ends : (b : Bool) → cond b (status_bytes MoreToFetch) (status_bytes Done) ≡ status_bytes (cond b MoreToFetch Done)
 ends true = refl
 ends false = refl
 
-pub gives : (c : Core) (k : Kind) (z : Buffer) (at most n : ℕ) (p : Part) (s : Status) (lent written : List ℕ)
+pub gives : (c : Core) (k : Kind) (z : Store 288) (at most n : ℕ) (p : Part) (s : Status) (lent written : List ℕ)
     → p ≡ block_of (held z) at most → s ≡ cond p.more MoreToFetch Done
     → n ≡ length (reply p.bytes s) → written ≡ fronted (reply p.bytes s) lent
     → Replied (given (core_of c) (kind_of k) (held z) at most) c (with_reply c k z (at + length p.bytes)) lent written n

@@ -19,7 +19,7 @@ use crate::shape::data_alone;
 use apdu::{Body, Status};
 use associate::carry_out;
 use buffer::{Buffer, ROOM};
-use objects::join::Joined;
+use objects::join::{Unread, read_object};
 use request::Kind;
 
 // The most bytes of blocks that are joined: what a buffer holds, and one block more.
@@ -76,16 +76,16 @@ impl Core {
         requires area { 64 ≤ length area.old }
         ensures { Said (joined keyed (core_of self.old) random.now (kind_of kind) bytes.now (object bytes.now)) self.old self.new result }
     {
-        match Joined::read(bytes) {
-            Joined::Bad => self.refuse(Status::WrongData),
-            Joined::Incomplete => {
+        match read_object(bytes) {
+            Err(Unread::Bad) => self.refuse(Status::WrongData),
+            Err(Unread::Incomplete) => {
                 self.pending = Pending::Object(Gathered {
                     kind,
                     bytes: Buffer::from_slice(bytes),
                 });
                 Status::MoreToSend
             }
-            Joined::Value(value) => self.carry_out(kind, value, random, area),
+            Ok(value) => self.carry_out(kind, value, random, area),
         }
     }
     // A command block: data alone joins what was gathered, and drops whatever else was pending.

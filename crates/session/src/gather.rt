@@ -61,7 +61,7 @@ impl Part {
         let Some(data) = contents(container, body) else {
             return Heard::Refused(Status::WrongLength);
         };
-        if !self.joined.append(data) {
+        if self.joined.append(data).is_err() {
             return Heard::Refused(Status::WrongLength);
         }
         self.last = Block::of(p2, data);
