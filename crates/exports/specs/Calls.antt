@@ -1,10 +1,7 @@
 -- What the calls for C ask of their lengths, answer and leave behind.
 use Rattle.std.specs.Prelude.{Bool, false, cond, List, ℕ, ◌%◌, eqb, length, take, drop}
-use Rattle.cipher.specs.Cbc.{cbc, uncbc}
 use Rattle.cipher.specs.Triple.{in_turn}
 use Rattle.des.specs.Des.{des_encrypt, des_decrypt}
-use Rattle.exports.specs.declared.chain.Way.{Way}
-use Rattle.exports.specs.declared.chain.Way.TheVariants.{Encrypting, Decrypting}
 
 -- A call answers 0 where the lengths fit, else 1.
 abbrev pub answer : Bool → ℕ
@@ -17,11 +14,6 @@ fitting k n key buf = cond (eqb (length key) k) (eqb (length buf % n) 0) false
 -- The key has k bytes, and there is room for n bytes exactly.
 abbrev pub room : ℕ → ℕ → List ℕ → List ℕ → Bool
 room k n key out = cond (eqb (length key) k) (eqb (length out) n) false
-
--- All the blocks of xs, of n bytes each, encrypted by E or decrypted by D.
-abbrev pub run : Way → ℕ → (List ℕ → List ℕ) → (List ℕ → List ℕ) → List ℕ → List ℕ
-run Encrypting n E D xs = cbc n E xs
-run Decrypting n E D xs = uncbc n D xs
 
 -- The 8 bytes of a key from the place i on.
 abbrev pub part : ℕ → List ℕ → List ℕ

@@ -5,6 +5,7 @@ ghost use Rattle.cmac.specs.Cmac.{cmac};
 ghost use Rattle.crc.specs.Crc.{crc};
 ghost use Rattle.exports.specs.Calls.{answer, room};
 
+use crate::answers::{answering, is_room};
 use crate::keys::aes_of;
 use cmac::Cmac;
 use crc::Crc32;
@@ -16,11 +17,12 @@ pub extern "C" fn card_cmac(key: &[u8], message: &[u8], out: &mut [u8]) -> u32
     ensures answer { result ≡ answer (room 16 16 key.now out.old) }
     ensures after { out.new ≡ cond (room 16 16 key.now out.old) (cmac (aes_encrypt key.now) message.now) out.old }
 {
-    if key.len() != 16 || out.len() != 16 {
-        return 1;
-    }
-    Cmac::new(aes_of(key)).write_check(message, out);
-    0
+    let fits = is_room(16, 16, key, out);
+    answering(
+        fits,
+        out,
+        |out| Cmac::new(aes_of(key)).write_check(message, out),
+    )
 }
 
 // Writes the CRC-32 of a message: 4 bytes, the highest first.
@@ -29,9 +31,6 @@ pub extern "C" fn card_crc32(message: &[u8], out: &mut [u8]) -> u32
     ensures answer { result ≡ answer (eqb (length out.old) 4) }
     ensures after { out.new ≡ cond (eqb (length out.old) 4) (crc message.now) out.old }
 {
-    if out.len() != 4 {
-        return 1;
-    }
-    Crc32.write_check(message, out);
-    0
+    let fits = out.len() == 4;
+    answering(fits, out, |out| Crc32.write_check(message, out))
 }

@@ -16,9 +16,7 @@ pub fn aes_of(key: &[u8]) -> Aes128
     ensures encrypts { encrypted (bytes_of result.keys) ≡ aes_encrypt key.now }
     ensures decrypts { decrypted (bytes_of result.keys) ≡ aes_decrypt key.now }
 {
-    let mut whole = [0u8; 16];
-    whole.copy_from_slice(key);
-    Aes128::new(&whole)
+    Aes128::new(key.as_array().unwrap())
 }
 
 // DES under the eight key bytes from the place `at`.
@@ -27,9 +25,7 @@ fn des_at(key: &[u8], at: usize) -> Des
     ensures encrypts { encrypts result.keys ≡ des_encrypt (part at key.now) }
     ensures decrypts { decrypts result.keys ≡ des_decrypt (part at key.now) }
 {
-    let mut eight = [0u8; 8];
-    eight.copy_from_slice(&key[at..at + 8]);
-    Des::new(&eight)
+    Des::new(key[at..at + 8].as_array().unwrap())
 }
 
 // Triple DES under twenty-four key bytes.
