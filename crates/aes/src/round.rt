@@ -10,7 +10,8 @@ ghost use Rattle.aes.specs.Words.{bytes_of, gathered};
 use crate::column::{inv_mixed, inv_substituted, sub_mixed, substituted};
 use crate::state::State;
 
-// AddRoundKey.
+// AddRoundKey, under its name in FIPS 197 and not as `^`.
+#[tactic(auto, using(crate::proofs::FourColumns::key_added))]
 pub fn add_round_key(s: State, key: &[u32; 4]) -> State
     ensures { state_bytes result ≡ xors (state_bytes s) (bytes_of key.now) }
 {
@@ -49,7 +50,7 @@ pub fn last_forward(s: State, key: &[u32; 4]) -> State
     add_round_key(shifted(s, substituted), key)
 }
 
-// InvShiftRows and InvSubBytes.
+// InvShiftRows and InvSubBytes. By `shifted` the columns would have to be turned round before and behind.
 fn shifted_back(s: State) -> State
     ensures { state_bytes result ≡ inv_sub_bytes (inv_shift_rows (state_bytes s)) }
 {
