@@ -25,6 +25,7 @@ pub fn added(a: u32, b: u32) -> u32
 }
 
 // The word turned right by 1, 2 or 3 bytes.
+#[tactic(auto, using(crate::proofs::WordBytes::turned_right))]
 pub fn turned_right(word: u32, bytes: u32) -> u32
     requires { (1 ≤ bytes) × (bytes ≤ 3) }
     ensures { octets 4 result ≡ turned bytes (octets 4 word) }

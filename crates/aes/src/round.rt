@@ -51,6 +51,7 @@ pub fn last_forward(s: State, key: &[u32; 4]) -> State
 }
 
 // InvShiftRows and InvSubBytes. By `shifted` the columns would have to be turned round before and behind.
+#[tactic(auto, using(crate::proofs::FourColumns::shifted_back_made))]
 fn shifted_back(s: State) -> State
     ensures { state_bytes result ≡ inv_sub_bytes (inv_shift_rows (state_bytes s)) }
 {
@@ -63,6 +64,7 @@ fn shifted_back(s: State) -> State
 }
 
 // InvMixColumns.
+#[tactic(auto, using(crate::proofs::FourColumns::mixed_back_made))]
 fn mixed_back(s: State) -> State
     ensures { state_bytes result ≡ inv_mix_columns (state_bytes s) }
 {
