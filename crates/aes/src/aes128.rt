@@ -20,6 +20,7 @@ pub struct Aes128 {
 
 impl Aes128 {
     // The cipher under a key.
+    #[tactic(auto, unfolding(crate::specs::Cipher::aes_encrypt, crate::specs::Cipher::aes_decrypt))]
     pub fn new(key: &[u8; 16]) -> Aes128
         ensures expands { bytes_of result.keys ≡ key_expansion key.now }
         ensures encrypts { encrypted (bytes_of result.keys) ≡ aes_encrypt key.now }

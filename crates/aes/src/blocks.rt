@@ -7,6 +7,7 @@ use crate::round::{add_round_key, back, first_back, forward, last_forward};
 use crate::transfer::{state_of, write};
 
 // The eleven round keys of the expanded key.
+#[tactic(auto, using(crate::proofs::Rounds::round_key_words))]
 fn round_keys(keys: &[u32; 44]) -> &[[u32; 4]]
     ensures eleven { length result.now ≡ 11 }
     ensures each { (r : ℕ) → r < 11 → bytes_of (slice_index_or result.now r []) ≡ round_key (bytes_of keys.now) r }
@@ -26,7 +27,7 @@ pub fn encrypt_block(keys: &[u32; 44], block: &mut [u8; 16])
     write(last_forward(s, &round_keys[10]), block);
 }
 
-// InvCipher, in place.
+// InvCipher, in place. Its first and its last step and the order of the keys are its own, so it has its own text.
 pub fn decrypt_block(keys: &[u32; 44], block: &mut [u8; 16])
     ensures { block.new ≡ decrypted (bytes_of keys.now) block.old }
 {

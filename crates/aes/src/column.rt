@@ -8,6 +8,7 @@ ghost use Rattle.aes.specs.Words.{turned, gathered, looked_up};
 use sbox::{inv_mix, inv_sub_byte, sub_byte, sub_mix};
 
 // The byte of the column in a row, from 0.
+#[tactic(auto, using(byte_lists::proofs::Digits::octets_four))]
 fn byte_in(column: u32, row: usize) -> u8
     requires { row < 4 }
     ensures { result ≡ slice_index (octets 4 column) row }
@@ -16,6 +17,7 @@ fn byte_in(column: u32, row: usize) -> u8
 }
 
 // The sum of two words, byte by byte.
+#[tactic(auto, using(crate::proofs::WordBytes::octets_xor))]
 pub fn added(a: u32, b: u32) -> u32
     ensures { octets 4 result ≡ xors (octets 4 a) (octets 4 b) }
 {
@@ -23,6 +25,7 @@ pub fn added(a: u32, b: u32) -> u32
 }
 
 // The word turned right by 1, 2 or 3 bytes.
+#[tactic(auto, using(crate::proofs::WordBytes::turned_right))]
 pub fn turned_right(word: u32, bytes: u32) -> u32
     requires { (1 ≤ bytes) × (bytes ≤ 3) }
     ensures { octets 4 result ≡ turned bytes (octets 4 word) }
@@ -81,6 +84,7 @@ pub fn substituted(a: u32, b: u32, c: u32, d: u32) -> u32
 }
 
 // SubBytes of a column.
+#[tactic(auto, unfolding(byte_lists::specs::Numbers::octets))]
 pub fn sub_word(word: u32) -> u32
     ensures { octets 4 result ≡ sub_bytes (octets 4 word) }
 {

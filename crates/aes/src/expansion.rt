@@ -13,6 +13,7 @@ use crate::transfer::state_of;
 const RCON: [u8; 10] = [0x01, 0x02, 0x04, 0x08, 0x10, 0x20, 0x40, 0x80, 0x1b, 0x36];
 
 // Rcon of a round, from 1.
+#[tactic(auto, using(crate::proofs::Schedule::constant_made))]
 fn round_constant(round: usize) -> u32
     requires { (1 ≤ round) × (round ≤ 10) }
     ensures { octets 4 result ≡ rcon round }
@@ -54,6 +55,7 @@ pub fn expand(key: &[u8; 16]) -> [u32; 44]
     let first = state_of(key);
     let mut keys = [0u32; 44];
     keys[0..4].copy_from_slice(&[first.c0, first.c1, first.c2, first.c3]);
+    // By number: each word is made of two before it in the same array, which no iterator lends.
     for n in 0..40usize {
         keys[n + 4] = keys[n] ^ joining_word(n + 4, keys[n + 3]);
     }

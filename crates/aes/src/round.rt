@@ -10,7 +10,8 @@ ghost use Rattle.aes.specs.Words.{bytes_of, gathered};
 use crate::column::{inv_mixed, inv_substituted, sub_mixed, substituted};
 use crate::state::State;
 
-// AddRoundKey.
+// AddRoundKey, under its name in FIPS 197 and not as `^`.
+#[tactic(auto, using(crate::proofs::FourColumns::key_added))]
 pub fn add_round_key(s: State, key: &[u32; 4]) -> State
     ensures { state_bytes result ≡ xors (state_bytes s) (bytes_of key.now) }
 {
@@ -49,7 +50,8 @@ pub fn last_forward(s: State, key: &[u32; 4]) -> State
     add_round_key(shifted(s, substituted), key)
 }
 
-// InvShiftRows and InvSubBytes.
+// InvShiftRows and InvSubBytes. By `shifted` the columns would have to be turned round before and behind.
+#[tactic(auto, using(crate::proofs::FourColumns::shifted_back_made))]
 fn shifted_back(s: State) -> State
     ensures { state_bytes result ≡ inv_sub_bytes (inv_shift_rows (state_bytes s)) }
 {
@@ -62,6 +64,7 @@ fn shifted_back(s: State) -> State
 }
 
 // InvMixColumns.
+#[tactic(auto, using(crate::proofs::FourColumns::mixed_back_made))]
 fn mixed_back(s: State) -> State
     ensures { state_bytes result ≡ inv_mix_columns (state_bytes s) }
 {

@@ -10,6 +10,7 @@ pub fn read(bytes: &[u8; 8]) -> u64
 }
 
 // The eight bytes of a word.
+#[tactic(auto, using(byte_lists::proofs::Digits::octets_eight))]
 pub fn written(word: u64) -> [u8; 8]
     ensures { result ≡ octets 8 word }
 {

@@ -3,6 +3,7 @@ ghost use Rattle.std.specs.Prelude.{◌≡◌, ◌<◌};
 ghost use Rattle.des_tables.specs.Words.{exchanged, initial_word, final_word};
 
 // The bits that the mask marks change places with those `shift` higher.
+#[tactic(auto, unfolding(des_tables::specs::Words::exchanged))]
 fn exchange(x: u64, shift: u32, mask: u64) -> u64
     requires { shift < 64 }
     ensures { result ≡ exchanged shift mask x }
