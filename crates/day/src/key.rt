@@ -32,9 +32,8 @@ fn show_limits(rt: &HostRuntime, load: &KeyLoad) -> anyhow::Result<()> {
 }
 
 fn show_refusal(rt: &HostRuntime, refusal: Refusal) -> anyhow::Result<()> {
-    let number = refusal.number();
-    let words = refusal.words();
-    println!(rt; "  refused with {number}: {words}")?;
+    let number = u8::from(refusal);
+    println!(rt; "  refused with {number}: {refusal}")?;
     Ok(())
 }
 

@@ -1,13 +1,12 @@
 -- What is written loads, and either side of a limit.
-use Rattle.std.proofs.Common.{◌≡◌, ℕ, ◌^◌, ◌<◌, ◌≤◌, Bool, true, false, List, [], ◌∷◌, ◌++◌, Some, codes, decimal, refl, ap, ◌∙◌, arith, lit<}
+use Rattle.std.proofs.Common.{◌≡◌, ℕ, ◌^◌, ◌<◌, ◌≤◌, Bool, true, false, List, [], ◌∷◌, ◌++◌, Ok, Err, Some, codes, decimal, refl, ap, ◌∙◌, arith, lit<}
 use Rattle.std.proofs.lemmas.Bool.{cond-true}
 use Rattle.numerals.specs.Hexadecimal.{hex}
 use Rattle.personalise.specs.Lines.{lines_of, ended}
-use Rattle.personalise.specs.Limits.{limit}
+use Rattle.personalise.specs.Limits.{Limit, limit}
 use Rattle.personalise.specs.Load.{Lines, malformed, unset, key_of, hexed, flag, limited, keyed, by_lines, loading}
 use Rattle.personalise.specs.Written.{text_of, shown_flag, with_masters, without_masters, Good, EitherSide, LoadedIfWritten}
-use Rattle.personalise.specs.declared.limit.Limit.{Limit}
-use Rattle.personalise.specs.declared.limit.Limit.TheVariants.{Unset, Number}
+use Rattle.personalise.specs.declared.refusal.Refusal.TheVariants.{Unset}
 use Rattle.personalise.proofs.Texts.{unbroken, AllUnbroken, lines_text, ended_text}
 use Rattle.personalise.proofs.Values.{unbroken_hex, unbroken_decimal, hexed_hex, limit_decimal}
 
@@ -33,7 +32,7 @@ unbroken_flag false = refl
 keyed_good : (l : Lines) → Good l → (m : Limit)
     → keyed (hexed 22 68 (Some (hex l.ref))) (hexed 32 32 (Some (hex l.secret))) (flag (Some (shown_flag l.weak))) m
     (limit 4294967295 (Some (decimal l.connections))) (limit 18446744073709551615 (Some (decimal l.transactions)))
-    ≡ limited (key_of l.ref l.secret l.weak) m (Number l.connections) (Number l.transactions)
+    ≡ limited (key_of l.ref l.secret l.weak) m (Ok l.connections) (Ok l.transactions)
 keyed_good l g m =
     let r = hexed_hex 22 68 l.ref g.ref_bytes g.ref_least g.ref_most in
     let k = hexed_hex 32 32 l.secret g.secret_block.1 (omega (arith, g.secret_block.0)) (omega (arith, g.secret_block.0)) in
@@ -51,7 +50,7 @@ module _ (l : Lines) (g : Good l) where
 
   -- With any bytes for the number of masters.
   loading_masters : (m : List ℕ) → unbroken m ≡ true
-      → loading (with_masters l m) ≡ limited (key_of l.ref l.secret l.weak) (limit 65535 (Some m)) (Number l.connections) (Number l.transactions)
+      → loading (with_masters l m) ≡ limited (key_of l.ref l.secret l.weak) (limit 65535 (Some m)) (Ok l.connections) (Ok l.transactions)
   loading_masters m p =
       loading_lines (codes "ref=" ++ hex l.ref)
       ((codes "key=" ++ hex l.secret) ∷ (codes "weak=" ++ shown_flag l.weak) ∷ (codes "masters=" ++ m)
@@ -66,13 +65,13 @@ module _ (l : Lines) (g : Good l) where
       ((codes "key=" ++ hex l.secret) ∷ (codes "weak=" ++ shown_flag l.weak)
       ∷ (codes "connections=" ++ decimal l.connections) ∷ (codes "transactions=" ++ decimal l.transactions) ∷ [])
       (unbroken_hex l.ref, (unbroken_hex l.secret, (unbroken_flag l.weak, (unbroken_connections, (unbroken_transactions, tt)))))
-      ∙ keyed_good l g Unset
+      ∙ keyed_good l g (Err Unset)
 
 pub loaded_if_written : LoadedIfWritten
 loaded_if_written l g =
     let b = small 65535 l.masters g.masters_top (lit< tt) in
     loading_masters l g (decimal l.masters) (unbroken_decimal l.masters b)
-    ∙ ap (λ x. limited (key_of l.ref l.secret l.weak) x (Number l.connections) (Number l.transactions)) (limit_decimal 65535 l.masters g.masters_top b)
+    ∙ ap (λ x. limited (key_of l.ref l.secret l.weak) x (Ok l.connections) (Ok l.transactions)) (limit_decimal 65535 l.masters g.masters_top b)
 
 pub either_side : (l : Lines) → Good l → EitherSide l
 either_side l g = record {

@@ -2,9 +2,8 @@
 use Rattle.std.proofs.Common.{◌≡◌, ℕ, Bool, true, false, cond, List, codes, Option, sym, ap, ◌∙◌}
 use Rattle.std.proofs.lemmas.Bool.{cond-true, cond-false}
 use Rattle.personalise.specs.Lines.{lines_of, ended, value, past, none}
-use Rattle.personalise.specs.Limits.{limit}
+use Rattle.personalise.specs.Limits.{Limit, limit}
 use Rattle.personalise.specs.Load.{Loading, malformed, hexed, flag, keyed, by_lines, loading}
-use Rattle.personalise.specs.declared.limit.Limit.{Limit}
 
 -- What is made of the six lines, where none is left behind them.
 abbrev pub judged : Bool → Option (List ℕ) → Option (List ℕ) → Option Bool → Limit → Limit → Limit → Loading

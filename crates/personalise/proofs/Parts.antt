@@ -1,5 +1,5 @@
 -- What stood in a line, from what was read of it.
-use Rattle.std.proofs.Common.{◌≡◌, ℕ, suc, ◌^◌, ◌<◌, ◌≤◌, Bool, true, false, cond, ◌&&◌, ◌||◌, eqb, leb, List, [], ◌∷◌, ◌++◌, length, take, drop, Some, None, decimal, Option, sym, refl, ap, ◌∙◌, arith}
+use Rattle.std.proofs.Common.{◌≡◌, ℕ, suc, ◌^◌, ◌<◌, ◌≤◌, Bool, true, false, cond, ◌&&◌, ◌||◌, eqb, leb, List, [], ◌∷◌, ◌++◌, length, take, drop, Ok, Err, Some, None, decimal, Option, sym, refl, ap, ◌∙◌, arith}
 use Rattle.std.proofs.lemmas.Slice.Eq.{bytes_eq-Decides}
 use Rattle.std.proofs.lemmas.List.{take-append-drop}
 use Rattle.std.proofs.lemmas.Bool.{and_parts, leb-true, eqb-true, ne_eqb}
@@ -10,11 +10,10 @@ use Rattle.numerals.specs.Hexadecimal.{hex, unhex, sized}
 use Rattle.numerals.proofs.HexWritten.{hex_unhex}
 use Rattle.numerals.proofs.Written.{decimal_numeral}
 use Rattle.personalise.specs.Lines.{value, passed, past}
-use Rattle.personalise.specs.Limits.{limit, numbered, malformed_limit}
+use Rattle.personalise.specs.Limits.{Limit, limit, numbered, malformed_limit}
 use Rattle.personalise.specs.Load.{Lines, malformed, unset, loads, key_of, hexed, bit, flag, limited, keyed}
 use Rattle.personalise.specs.Written.{shown_flag}
-use Rattle.personalise.specs.declared.limit.Limit.{Limit}
-use Rattle.personalise.specs.declared.limit.Limit.TheVariants.{Unset, Malformed, Number}
+use Rattle.personalise.specs.declared.refusal.Refusal.TheVariants.{Unset, Malformed}
 
 -- A line that has the name is the name and the value.
 behind_is : (name l v : List ℕ) (t : Bool) → bytes_eq name (take (length name) l) ≡ t → cond t (Some (drop (length name) l)) None ≡ Some v → l ≡ name ++ v
@@ -70,12 +69,12 @@ flag_read (Some (c ∷ d ∷ cs)) w e =
     let z : ◌≡◌ {A = ℕ} 0 1 = cc in
     absurd (omega arith)
 
-numbered_is : (o : Option ℕ) (n : ℕ) → numbered o ≡ Number n → o ≡ Some n
+numbered_is : (o : Option ℕ) (n : ℕ) → numbered o ≡ Ok n → o ≡ Some n
 numbered_is None n e = let z : ◌≡◌ {A = ℕ} 0 1 = cc in absurd (omega arith)
 numbered_is (Some m) n e = let f : m ≡ n = cc in ap Some f
 
 -- A number that was read was written.
-pub limit_read : (top n : ℕ) (o : Option (List ℕ)) → top < 2 ^ 64 → limit top o ≡ Number n → (o ≡ Some (decimal n)) × (n ≤ top)
+pub limit_read : (top n : ℕ) (o : Option (List ℕ)) → top < 2 ^ 64 → limit top o ≡ Ok n → (o ≡ Some (decimal n)) × (n ≤ top)
 limit_read top n None h e = let z : ◌≡◌ {A = ℕ} 0 1 = cc in absurd (omega arith)
 limit_read top n (Some []) h e = let z : ◌≡◌ {A = ℕ} 0 1 = cc in absurd (omega arith)
 limit_read top n (Some (c ∷ cs)) h e =
@@ -87,31 +86,31 @@ pub record AllRead (r k : Option (List ℕ)) (w : Option Bool) (m c t : Limit) (
   pub ref_is : r ≡ Some l.ref
   pub secret_is : k ≡ Some l.secret
   pub weak_is : w ≡ Some l.weak
-  pub masters_is : m ≡ Number l.masters
-  pub connections_is : c ≡ Number l.connections
-  pub transactions_is : t ≡ Number l.transactions
+  pub masters_is : m ≡ Ok l.masters
+  pub connections_is : c ≡ Ok l.connections
+  pub transactions_is : t ≡ Ok l.transactions
 
 no_load : (b : Bool) (l : Lines) → cond b malformed unset ≡ loads l → ⊥
 no_load true l e = let z : ◌≡◌ {A = ℕ} 0 1 = cc in omega arith
 no_load false l e = let z : ◌≡◌ {A = ℕ} 0 1 = cc in omega arith
 
 limits_read : (r k : List ℕ) (w : Bool) (m c t : Limit) (l : Lines) → limited (key_of r k w) m c t ≡ loads l → AllRead (Some r) (Some k) (Some w) m c t l
-limits_read r k w (Number a) (Number b) (Number d) l e =
+limits_read r k w (Ok a) (Ok b) (Ok d) l e =
     let f : key_of r k w a b d ≡ l = cc in
     record {
       ref_is = ap (λ x. Some x.ref) f;
       secret_is = ap (λ x. Some x.secret) f;
       weak_is = ap (λ x. Some x.weak) f;
-      masters_is = ap (λ x. Number x.masters) f;
-      connections_is = ap (λ x. Number x.connections) f;
-      transactions_is = ap (λ x. Number x.transactions) f;
+      masters_is = ap (λ x. Ok x.masters) f;
+      connections_is = ap (λ x. Ok x.connections) f;
+      transactions_is = ap (λ x. Ok x.transactions) f;
     }
-limits_read r k w (Number a) (Number b) Unset l e = absurd (no_load false l e)
-limits_read r k w (Number a) (Number b) Malformed l e = absurd (no_load true l e)
-limits_read r k w (Number a) Unset t l e = absurd (no_load (malformed_limit t) l e)
-limits_read r k w (Number a) Malformed t l e = absurd (no_load true l e)
-limits_read r k w Unset c t l e = absurd (no_load (malformed_limit c || malformed_limit t) l e)
-limits_read r k w Malformed c t l e = absurd (no_load true l e)
+limits_read r k w (Ok a) (Ok b) (Err Unset) l e = absurd (no_load false l e)
+limits_read r k w (Ok a) (Ok b) (Err Malformed) l e = absurd (no_load true l e)
+limits_read r k w (Ok a) (Err Unset) t l e = absurd (no_load (malformed_limit t) l e)
+limits_read r k w (Ok a) (Err Malformed) t l e = absurd (no_load true l e)
+limits_read r k w (Err Unset) c t l e = absurd (no_load (malformed_limit c || malformed_limit t) l e)
+limits_read r k w (Err Malformed) c t l e = absurd (no_load true l e)
 
 pub all_read : (r k : Option (List ℕ)) (w : Option Bool) (m c t : Limit) (l : Lines) → keyed r k w m c t ≡ loads l → AllRead r k w m c t l
 all_read (Some r) (Some k) (Some w) m c t l e = limits_read r k w m c t l e

@@ -1,5 +1,5 @@
 -- What is written of a value, read again: the digits hold no LF, and say the value.
-use Rattle.std.proofs.Common.{◌≡◌, ℕ, ◌/◌, ◌%◌, ◌^◌, ◌<◌, ◌≤◌, true, not, ◌&&◌, eqb, leb, List, [], ◌∷◌, length, Some, None, decimal, refl, ap, ◌∙◌, arith}
+use Rattle.std.proofs.Common.{◌≡◌, ℕ, ◌/◌, ◌%◌, ◌^◌, ◌<◌, ◌≤◌, true, not, ◌&&◌, eqb, leb, List, [], ◌∷◌, length, Ok, Some, None, decimal, refl, ap, ◌∙◌, arith}
 use Rattle.std.proofs.lemmas.Fmt.{decimal_nonempty}
 use Rattle.std.proofs.lemmas.Bool.{and_parts, and_from, cond-true, le-leb}
 use Rattle.std.proofs.lemmas.Bool.Decides.{nat_tests}
@@ -12,7 +12,6 @@ use Rattle.numerals.proofs.HexWritten.{unhex_hex}
 use Rattle.numerals.proofs.Written.{digits_written, numeral_decimal}
 use Rattle.personalise.specs.Limits.{limit, numbered}
 use Rattle.personalise.specs.Load.{hexed}
-use Rattle.personalise.specs.declared.limit.Limit.TheVariants.{Number}
 use Rattle.personalise.proofs.Texts.{unbroken}
 
 shown_unbroken : (d : ℕ) → not (eqb (shown d) 10) ≡ true
@@ -47,5 +46,5 @@ limit_digits : (top : ℕ) (cs : List ℕ) → 0 < length cs → limit top (Some
 limit_digits top [] h = absurd (omega arith)
 limit_digits top (c ∷ cs) h = refl
 
-pub limit_decimal : (top n : ℕ) → n ≤ top → n < 2 ^ 64 → limit top (Some (decimal n)) ≡ Number n
+pub limit_decimal : (top n : ℕ) → n ≤ top → n < 2 ^ 64 → limit top (Some (decimal n)) ≡ Ok n
 limit_decimal top n h b = limit_digits top (decimal n) (decimal_nonempty n b) ∙ ap numbered (numeral_decimal top n h b)

@@ -2,8 +2,7 @@
 use Rattle.std.specs.Prelude.{ℕ, Bool, true, false, cond, ◌||◌, List, length, Some, None, codes, Option, ◌==◌, slice_index}
 use Rattle.numerals.specs.Hexadecimal.{unhex, sized}
 use Rattle.personalise.specs.Lines.{lines_of, ended, value, past, none}
-use Rattle.personalise.specs.Limits.{limit, malformed_limit, number_of}
-use Rattle.personalise.specs.declared.limit.Limit.{Limit}
+use Rattle.personalise.specs.Limits.{Limit, limit, malformed_limit, number_of}
 
 -- What the lines say of a key.
 pub record Lines : Type 0 where

@@ -1,10 +1,9 @@
 // A key that was loaded, with its limits.
 ghost use Rattle.std.specs.Prelude.{◌≡◌, ◌≤◌, length};
-ghost use Rattle.personalise.specs.Limits.{Within};
+ghost use Rattle.personalise.specs.Limits.{malformed_limit, Within};
 ghost use Rattle.personalise.specs.Load.{key_of, limited};
 ghost use Rattle.personalise.specs.Says.{answered, ref_of, says};
 
-use crate::limit::Limit;
 use crate::reference::Reference;
 use crate::refusal::Refusal;
 
@@ -25,33 +24,24 @@ impl KeyLoad {
         reference: Reference,
         key: [u8; 32],
         weak: bool,
-        masters: Limit,
-        connections: Limit,
-        transactions: Limit,
+        masters: Result<u64, Refusal>,
+        connections: Result<u64, Refusal>,
+        transactions: Result<u64, Refusal>,
     ) -> Result<KeyLoad, Refusal>
         requires masters { Within 65535 masters }
         requires connections { Within 4294967295 connections }
         ensures { answered result ≡ limited (key_of (ref_of reference) key weak) masters connections transactions }
     {
-        if masters.is_malformed() || connections.is_malformed() || transactions.is_malformed() {
+        if is_malformed(masters) || is_malformed(connections) || is_malformed(transactions) {
             return Err(Refusal::Malformed);
         }
-        let Some(masters) = masters.number() else {
-            return Err(Refusal::Unset);
-        };
-        let Some(connections) = connections.number() else {
-            return Err(Refusal::Unset);
-        };
-        let Some(transactions) = transactions.number() else {
-            return Err(Refusal::Unset);
-        };
         Ok(KeyLoad {
             reference,
             key,
             weak,
-            masters: masters as u16,
-            connections: connections as u32,
-            transactions,
+            masters: masters? as u16,
+            connections: connections? as u32,
+            transactions: transactions?,
         })
     }
 
@@ -97,4 +87,11 @@ impl KeyLoad {
     {
         self.transactions
     }
+}
+
+// Whether a limit's line is malformed.
+fn is_malformed(limit: Result<u64, Refusal>) -> bool
+    ensures { result ≡ malformed_limit limit }
+{
+    matches!(limit, Err(Refusal::Malformed))
 }

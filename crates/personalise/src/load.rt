@@ -9,7 +9,7 @@ ghost use Rattle.personalise.specs.Says.{answered, ref_of, says};
 ghost use Rattle.personalise.specs.Written.{written, Good, LawOfLoads};
 
 use crate::key_load::KeyLoad;
-use crate::limit::Limit;
+use crate::limit::read_limit;
 use crate::reader::Reader;
 use crate::reference::Reference;
 use crate::refusal::Refusal;
@@ -28,9 +28,9 @@ pub fn read(text: &[u8]) -> Result<KeyLoad, Refusal>
     let reference = reference_line(&mut lines);
     let key = key_line(&mut lines);
     let weak = weak_line(&mut lines);
-    let masters = masters_line(&mut lines);
-    let connections = connections_line(&mut lines);
-    let transactions = transactions_line(&mut lines);
+    let masters = limit_line(&mut lines, b"masters=", 65_535);
+    let connections = limit_line(&mut lines, b"connections=", 4_294_967_295);
+    let transactions = limit_line(&mut lines, b"transactions=", 18_446_744_073_709_551_615);
     if !lines.is_done() {
         return Err(Refusal::Malformed);
     }
@@ -42,23 +42,17 @@ fn keyed(
     reference: Option<Reference>,
     key: Option<[u8; 32]>,
     weak: Option<bool>,
-    masters: Limit,
-    connections: Limit,
-    transactions: Limit,
+    masters: Result<u64, Refusal>,
+    connections: Result<u64, Refusal>,
+    transactions: Result<u64, Refusal>,
 ) -> Result<KeyLoad, Refusal>
     requires masters { Within 65535 masters }
     requires connections { Within 4294967295 connections }
     ensures { answered result ≡ keyed (option_map ref_of reference) key weak masters connections transactions }
 {
-    let Some(reference) = reference else {
-        return Err(Refusal::Malformed);
-    };
-    let Some(key) = key else {
-        return Err(Refusal::Malformed);
-    };
-    let Some(weak) = weak else {
-        return Err(Refusal::Malformed);
-    };
+    let reference = reference.ok_or(Refusal::Malformed)?;
+    let key = key.ok_or(Refusal::Malformed)?;
+    let weak = weak.ok_or(Refusal::Malformed)?;
     KeyLoad::limited(reference, key, weak, masters, connections, transactions)
 }
 
@@ -66,10 +60,7 @@ fn keyed(
 fn is_ended(text: &[u8]) -> bool
     ensures { result ≡ ended text.now }
 {
-    match text {
-        [] => false,
-        [.., last] => *last == b'\n',
-    }
+    matches!(text, [.., b'\n'])
 }
 
 // `ref=`: 22 to 68 bytes in hexadecimal.
@@ -77,10 +68,7 @@ fn reference_line(lines: &mut Reader<'_>) -> Option<Reference>
     ensures value { option_map ref_of result ≡ hexed 22 68 (value (codes "ref=") (left lines.old)) }
     ensures past { left lines.new ≡ past (codes "ref=") (left lines.old) }
 {
-    let Some(digits) = lines.value(b"ref=") else {
-        return None;
-    };
-    Reference::read(digits)
+    Reference::read(lines.value(b"ref=")?)
 }
 
 // `key=`: 32 bytes in hexadecimal.
@@ -88,13 +76,9 @@ fn key_line(lines: &mut Reader<'_>) -> Option<[u8; 32]>
     ensures value { result ≡ hexed 32 32 (value (codes "key=") (left lines.old)) }
     ensures past { left lines.new ≡ past (codes "key=") (left lines.old) }
 {
-    let Some(digits) = lines.value(b"key=") else {
-        return None;
-    };
+    let digits = lines.value(b"key=")?;
     let mut key = [0; 32];
-    if !read_hexadecimal(digits, &mut key) {
-        return None;
-    }
+    read_hexadecimal(digits, &mut key)?;
     Some(key)
 }
 
@@ -110,38 +94,18 @@ fn weak_line(lines: &mut Reader<'_>) -> Option<bool>
 fn read_flag(value: Option<&[u8]>) -> Option<bool>
     ensures { result ≡ flag (option_map (λ x. x.now) value.entry) }
 {
-    let Some([digit]) = value else {
-        return None;
-    };
-    match digit {
-        b'0' => Some(false),
-        b'1' => Some(true),
+    match value {
+        Some([b'0']) => Some(false),
+        Some([b'1']) => Some(true),
         _ => None,
     }
 }
 
-// `masters=`: a number, at most 65535.
-fn masters_line(lines: &mut Reader<'_>) -> Limit
-    ensures value { result ≡ limit 65535 (value (codes "masters=") (left lines.old)) }
-    ensures past { left lines.new ≡ past (codes "masters=") (left lines.old) }
-    ensures within { Within 65535 result }
+// A limit's line: a number, at most the top.
+fn limit_line(lines: &mut Reader<'_>, name: &[u8], top: u64) -> Result<u64, Refusal>
+    ensures value { result ≡ limit top (value name.now (left lines.old)) }
+    ensures past { left lines.new ≡ past name.now (left lines.old) }
+    ensures within { Within top result }
 {
-    Limit::read(lines.value(b"masters="), 65_535)
-}
-
-// `connections=`: a number, at most 4294967295.
-fn connections_line(lines: &mut Reader<'_>) -> Limit
-    ensures value { result ≡ limit 4294967295 (value (codes "connections=") (left lines.old)) }
-    ensures past { left lines.new ≡ past (codes "connections=") (left lines.old) }
-    ensures within { Within 4294967295 result }
-{
-    Limit::read(lines.value(b"connections="), 4_294_967_295)
-}
-
-// `transactions=`: a number, at most 18446744073709551615.
-fn transactions_line(lines: &mut Reader<'_>) -> Limit
-    ensures value { result ≡ limit 18446744073709551615 (value (codes "transactions=") (left lines.old)) }
-    ensures past { left lines.new ≡ past (codes "transactions=") (left lines.old) }
-{
-    Limit::read(lines.value(b"transactions="), 18_446_744_073_709_551_615)
+    read_limit(lines.value(name), top)
 }

@@ -23,12 +23,8 @@ impl<'a> Reader<'a> {
         ensures value { option_map (λ x. x.now) result ≡ value name.now (left self.old) }
         ensures past { left self.new ≡ past name.now (left self.old) }
     {
-        let Some(end) = line_end(self.rest) else {
-            return None;
-        };
-        let Some(value) = value_of(&self.rest[0..end], name) else {
-            return None;
-        };
+        let end = line_end(self.rest)?;
+        let value = value_of(&self.rest[0..end], name)?;
         self.rest = &self.rest[end + 1..];
         Some(value)
     }
@@ -45,10 +41,7 @@ impl<'a> Reader<'a> {
 fn value_of<'a>(line: &'a [u8], name: &[u8]) -> Option<&'a [u8]>
     ensures { option_map (λ x. x.now) result ≡ behind name.now line.now }
 {
-    if !line.starts_with(name) {
-        return None;
-    }
-    Some(&line[name.len()..])
+    line.strip_prefix(name)
 }
 
 // Where the first line ends: the place of the first LF.

@@ -1,9 +1,8 @@
 // Why a load is refused.
-ghost use Rattle.std.specs.Prelude.{◌≡◌, codes};
-ghost use Rattle.personalise.specs.Refusals.{refusal_number, refusal_words};
+use std::fmt;
 
 // Why the text of a load gives no key.
-#[derive(Clone, Copy, PartialEq, Debug)]
+#[derive(Clone, Copy, PartialEq, Eq, Debug)]
 pub enum Refusal {
     // It is not six lines in their order, each in its form.
     Malformed,
@@ -11,25 +10,33 @@ pub enum Refusal {
     Unset,
 }
 
-impl Refusal {
-    // The number by which the card answers it.
-    pub fn number(self) -> u8
-        ensures { result ≡ refusal_number self }
-    {
-        match self {
+// The number by which the card answers it.
+impl From<Refusal> for u8 {
+    ghost use Rattle.std.specs.Prelude.{◌≡◌};
+    ghost use Rattle.personalise.specs.Refusals.{refusal_number};
+
+    ghost from_gives = { λ refusal number. number ≡ refusal_number refusal };
+
+    fn from(refusal: Refusal) -> u8 {
+        match refusal {
             Refusal::Malformed => 1,
             Refusal::Unset => 2,
         }
     }
+}
 
-    // The refusal in words, for people.
-    pub fn words(self) -> &'static str
-        ensures { result.now ≡ refusal_words self }
-    {
-        match self {
+// The refusal in words, for people.
+impl fmt::Display for Refusal {
+    ghost use Rattle.std.specs.Prelude.{Some};
+    ghost use Rattle.personalise.specs.Refusals.{refusal_words};
+
+    ghost output = { λ refusal. Some (refusal_words refusal) };
+
+    fn fmt<W: fmt::Write>(&self, f: &mut fmt::Formatter<W>) -> fmt::Result {
+        f.write_str(match self {
             Refusal::Malformed =>
                 "the text is not a key load: a line is missing, out of place or wrongly written",
             Refusal::Unset => "a limit is not set",
-        }
+        })
     }
 }

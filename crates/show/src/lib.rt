@@ -3,53 +3,60 @@
 
 use numerals::read_hexadecimal;
 use std::alloc::{AllocError, Global};
+use std::fmt;
 
-// A digit 0-9 A-F.
-fn digit(n: u8) -> char {
-    match n {
-        0..=9 => char::from(b'0' + n),
-        10..=15 => char::from(b'A' + (n - 10)),
-        _ => '?',
-    }
-}
+// Bytes that are shown as pairs of capital digits, with a space between two pairs: 00 73 00 A0 00.
+#[derive(Clone, Copy)]
+pub struct SpacedPairs<'a>(pub &'a [u8]);
 
-// Bytes as pairs of capital digits, with a space between two pairs: 00 73 00 A0 00.
-pub fn spaced(heap: Global, bytes: &[u8]) -> Result<String, AllocError> {
-    let mut text = String::new(heap);
-    for (i, b) in bytes.iter().enumerate() {
-        if i > 0 {
-            text.push(' ')?;
+// Bytes that are shown as pairs of capital digits; a line alone for none.
+#[derive(Clone, Copy)]
+pub struct JoinedPairs<'a>(pub &'a [u8]);
+
+impl fmt::Display for SpacedPairs<'_> {
+    fn fmt<W: fmt::Write>(&self, f: &mut fmt::Formatter<W>) -> fmt::Result {
+        for (i, byte) in self.0.iter().enumerate() {
+            if i > 0 {
+                f.write_str(" ")?;
+            }
+            write!(f, "{byte:02X}")?;
         }
-        text.push(digit(*b >> 4))?;
-        text.push(digit(*b & 15))?;
+        Ok(())
     }
-    Ok(text)
 }
 
-// Bytes as pairs of capital digits; a line alone for none.
+impl fmt::Display for JoinedPairs<'_> {
+    fn fmt<W: fmt::Write>(&self, f: &mut fmt::Formatter<W>) -> fmt::Result {
+        if self.0.is_empty() {
+            return f.write_str("-");
+        }
+        for byte in self.0 {
+            write!(f, "{byte:02X}")?;
+        }
+        Ok(())
+    }
+}
+
+// The same text on the heap.
+pub fn spaced(heap: Global, bytes: &[u8]) -> Result<String, AllocError> {
+    format!(in heap; "{}", SpacedPairs(bytes))
+}
+
+// The same text on the heap.
 pub fn joined(heap: Global, bytes: &[u8]) -> Result<String, AllocError> {
-    if bytes.is_empty() {
-        return String::from_str(heap, "-");
-    }
-    let mut text = String::new(heap);
-    for b in bytes {
-        text.push(digit(*b >> 4))?;
-        text.push(digit(*b & 15))?;
-    }
-    Ok(text)
+    format!(in heap; "{}", JoinedPairs(bytes))
 }
 
 // The bytes that pairs of capital digits write, or a line alone for none; nothing where the text is neither.
 pub fn unhex(heap: Global, text: &str) -> Result<Option<Vec<u8>>, AllocError> {
-    let digits = text.as_bytes();
-    if digits == b"-".as_slice() {
-        return Ok(Some(Vec::new(heap)));
-    }
+    let digits = match text {
+        "-" => &[],
+        pairs => pairs.as_bytes(),
+    };
     let mut bytes = vec![in heap; 0u8; digits.len() / 2]?;
-    if read_hexadecimal(digits, bytes.as_mut_slice()) {
-        Ok(Some(bytes))
-    } else {
-        Ok(None)
+    match read_hexadecimal(digits, bytes.as_mut_slice()) {
+        Some(()) => Ok(Some(bytes)),
+        None => Ok(None),
     }
 }
 

@@ -65,9 +65,7 @@ fn sealed(name: &str) -> Option<Algorithm> {
 
 fn suite_of(text: &str) -> Option<Suite> {
     let mut bytes = [0u8; 2];
-    if !read_hexadecimal(text.as_bytes(), &mut bytes) {
-        return None;
-    }
+    read_hexadecimal(text.as_bytes(), &mut bytes)?;
     let cipher = Cipher::of(bytes[0])?;
     let mechanism = Mechanism::of(bytes[1])?;
     Some(Suite { cipher, mechanism })

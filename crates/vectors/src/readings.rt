@@ -8,7 +8,7 @@ use std::alloc::Global;
 pub fn load(heap: Global, text: &[u8]) -> Outcome {
     let number = match read(text) {
         Ok(_) => 0,
-        Err(refusal) => refusal.number(),
+        Err(refusal) => refusal.into(),
     };
     Ok(Some(vec![in heap; number]?))
 }

@@ -11,7 +11,7 @@ use Rattle.personalise.proofs.load.read.Goals.{After-is_done}
 -- What the line functions gave, one behind the other, is what the text means.
 in_all : (c : After-is_done)
     → judged c.is_done.result (option_map ref_of c.reference_line-reference.result) c.key_line-key.result c.weak_line-weak.result
-    c.masters_line-masters.result c.connections_line-connections.result c.transactions_line-transactions.result
+    c.limit_line-masters.result c.limit_line-connections.result c.limit_line-transactions.result
     ≡ loading c.args.text.now
 in_all c =
     told c.args.text.now
@@ -19,17 +19,17 @@ in_all c =
     (left c.reference_line-reference.new.lines)
     (left c.key_line-key.new.lines)
     (left c.weak_line-weak.new.lines)
-    (left c.masters_line-masters.new.lines)
-    (left c.connections_line-connections.new.lines)
-    (left c.transactions_line-transactions.new.lines)
+    (left c.limit_line-masters.new.lines)
+    (left c.limit_line-connections.new.lines)
+    (left c.limit_line-transactions.new.lines)
     c.is_done.result (option_map ref_of c.reference_line-reference.result) c.key_line-key.result c.weak_line-weak.result
-    c.masters_line-masters.result c.connections_line-connections.result c.transactions_line-transactions.result
+    c.limit_line-masters.result c.limit_line-connections.result c.limit_line-transactions.result
     c.if-not-is_ended.ensures c.new-lines.ensures
     c.reference_line-reference.ensures.past c.key_line-key.ensures.past c.weak_line-weak.ensures.past
-    c.masters_line-masters.ensures.past c.connections_line-connections.ensures.past c.transactions_line-transactions.ensures.past
+    c.limit_line-masters.ensures.past c.limit_line-connections.ensures.past c.limit_line-transactions.ensures.past
     c.is_done.ensures
     c.reference_line-reference.ensures.value c.key_line-key.ensures.value c.weak_line-weak.ensures.value
-    c.masters_line-masters.ensures.value c.connections_line-connections.ensures.value c.transactions_line-transactions.ensures.value
+    c.limit_line-masters.ensures.value c.limit_line-connections.ensures.value c.limit_line-transactions.ensures.value
 
 pub returns-then-not-is_ended : goal.returns-then-not-is_ended
 returns-then-not-is_ended c = record { meaning = unended c.args.text.now c.if-not-is_ended.ensures; written = tt; law = law_of_loads }

@@ -16,16 +16,16 @@ read_half cs part n o e f h g = g ∙ ap (λ m. sized m m (unhex cs)) e ∙ size
 room : (n : ℕ) → n ≤ 68 → length {A = ℕ} (take (n - 0) (replicate 68 0)) ≡ n
 room n h = simp length-take (omega arith)
 
-pub returns-then-not-read_hexadecimal : goal.returns-then-not-read_hexadecimal
-returns-then-not-read_hexadecimal c =
+pub returns-in_err-read_hexadecimal : goal.returns-in_err-read_hexadecimal
+returns-in_err-read_hexadecimal c =
     let n = length c.args.digits.now / 2 in
     let h : (22 ≤ n) × (n ≤ 68) = c.is_allowed.ensures.0 c.if-not-is_allowed.false in
-    read_half c.args.digits.now (take (n - 0) (replicate 68 0)) n None (room n h.1) refl h c.if-not-read_hexadecimal.ensures
+    rw c.from_residual.ensures (read_half c.args.digits.now (take (n - 0) (replicate 68 0)) n None (room n h.1) refl h c.in_err-read_hexadecimal.ensures)
 
 pub returns : goal.returns
 returns c =
     let n = length c.args.digits.now / 2 in
     let h : (22 ≤ n) × (n ≤ 68) = c.is_allowed.ensures.0 c.if-not-is_allowed.false in
     let e : length c.read_hexadecimal.new.bytes ≡ n = c.read_hexadecimal.auto.bytes ∙ room n h.1 in
-    ap Some (take_at c.read_hexadecimal.new.bytes _ n e)
-    ∙ read_half c.args.digits.now (take (n - 0) (replicate 68 0)) n (Some c.read_hexadecimal.new.bytes) (room n h.1) refl h c.if-not-read_hexadecimal.ensures
+    ap Some (c.of.ensures ∙ take_at c.read_hexadecimal.new.bytes _ n e)
+    ∙ read_half c.args.digits.now (take (n - 0) (replicate 68 0)) n (Some c.read_hexadecimal.new.bytes) (room n h.1) refl h c.in_ok-read_hexadecimal.ensures
