@@ -6,6 +6,7 @@ mod counter;
 mod fare;
 mod run;
 mod total;
+mod written;
 
 pub use counter::FareCounter;
 pub use fare::Fare;

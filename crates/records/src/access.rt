@@ -1,22 +1,23 @@
 // Reading and writing records.
-ghost use Rattle.std.specs.Prelude.{◌≡◌, ◌<◌, ◌≤◌, [], length, IfSome};
-ghost use Rattle.apdu.specs.Reply.{reply, fronted};
-ghost use Rattle.records.specs.File.{blank, place as placed, record_at, read_at, write_at, keeps};
+ghost use Rattle.std.specs.Prelude.{◌≡◌, ◌<◌, [], length, IfSome};
+ghost use Rattle.std.specs.Option.{option_map};
+ghost use Rattle.apdu.specs.Reply.{reply};
+ghost use Rattle.records.specs.File.{blank, place as placed, record_at, write_at, keeps};
 ghost use Rattle.records.specs.Kept.{KeepsRecords};
 ghost use Rattle.records.specs.View.{records_of};
 
 use crate::file::RecordFile;
-use apdu::{Status, put_reply, put_status};
+use apdu::Status;
 
 // The place of the record with this number; `None` where there is no such record.
 fn place(number: u8) -> Option<usize>
     ensures place { result ≡ placed number }
     ensures within { IfSome result (λ i. i < 8) }
 {
-    if number < 1 || number > 8 {
-        return None;
+    match number {
+        1..=8 => Some(usize::from(number) - 1),
+        _ => None,
     }
-    Some(number as usize - 1)
 }
 
 impl RecordFile {
@@ -30,25 +31,13 @@ impl RecordFile {
         }
     }
 
-    // The record at a place.
-    fn record(&self, place: usize) -> &[u8]
-        requires { place < 8 }
-        ensures bytes { result.now ≡ record_at (records_of self.now) place }
-        ensures len { length result.now ≡ 16 }
+    // The record with this number.
+    pub(crate) fn record(&self, number: u8) -> Option<&[u8]>
+        ensures bytes { option_map (λ r. r.now) result ≡ option_map (record_at (records_of self.now)) (placed number) }
+        ensures len { IfSome result (λ r. length r.now ≡ 16) }
     {
-        &self.records[place][0..16]
-    }
-
-    // Replies the record with this number.
-    pub(crate) fn read(&self, number: u8, buffer: &mut [u8]) -> usize
-        requires { 258 ≤ length buffer.old }
-        ensures len { result ≡ length (read_at (records_of self.now) (placed number)).reply }
-        ensures written { buffer.new ≡ fronted (read_at (records_of self.now) (placed number)).reply buffer.old }
-    {
-        let Some(place) = place(number) else {
-            return put_status(buffer, Status::NoSuchRecord);
-        };
-        put_reply(buffer, self.record(place), Status::Done)
+        let place = place(number)?;
+        Some(&self.records[place][..16])
     }
 
     // Writes the data to the record with this number.
@@ -59,10 +48,10 @@ impl RecordFile {
         let Some(place) = place(number) else {
             return Status::NoSuchRecord;
         };
-        if data.len() != 16 {
+        let Some(record) = data.as_array() else {
             return Status::WrongLength;
-        }
-        self.records[place].copy_from_slice(data);
+        };
+        self.records[place] = *record;
         Status::Done
     }
 }

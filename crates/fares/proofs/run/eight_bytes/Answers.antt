@@ -1,6 +1,0 @@
-use Rattle.std.proofs.Common.{sym, ◌∙◌}
-use Rattle.byte_lists.proofs.Digits.{octets_eight}
-use Rattle.fares.proofs.run.eight_bytes.Goals as goal
-
-pub returns : goal.returns
-returns c = c.to_be_bytes.ensures ∙ sym (octets_eight c.args.n)
