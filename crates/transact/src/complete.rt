@@ -18,6 +18,7 @@ use buffer::ROOM;
 use manage::Core;
 use sealing::Sealer;
 use session::Session;
+use table_rows::Row;
 use tables::Connection;
 
 // These bytes at the start of an array.
@@ -36,11 +37,10 @@ pub fn complete<S: Sealer, A: Application>(
     core: &mut Core,
     sealer: &S,
     application: &mut A,
-    row: usize,
+    row: Row,
     connection: &Connection,
     session: &Session,
 ) -> Status
-    requires row { row < 4 }
     requires gathers { talk_of session.now.talk ≡ gathering (before (talk_of session.now.talk)) (last_of (talk_of session.now.talk)) }
     ensures { carries S.Sealer.seals A.Application.acts (state_of core.old (A.Application.contents application.old)) (judges S.Sealer.seals (core_of core.old) row (connection_of connection.now) session.now.container (last_of (talk_of session.now.talk)) (judged S.Sealer.seals (connection_of connection.now) (transactions_limit (tables_of core.old.tables).keys (tables_of core.old.tables).masters connection.now.master) (before (talk_of session.now.talk)))) ≡ ended core.new (A.Application.contents application.new) result }
 {

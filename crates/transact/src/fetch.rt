@@ -13,13 +13,14 @@ use crate::outcome::{go_on, said, taken};
 use apdu::{Body, Status, put_reply, put_status};
 use manage::Core;
 use session::{Event, Heard, Session};
+use table_rows::Row;
+use tables::Connection;
 
 // P1 + 2: a discard makes the session idle.
-pub fn discard(core: &mut Core, row: usize, body: Body<'_>) -> Status
-    requires { row < 4 }
+pub fn discard(core: &mut Core, row: Row, body: Body<'_>) -> Status
     ensures { Said (discards (core_of core.old) row (shape_of body.entry) (slice_index_or (tables_of core.old.tables).connections row None)) core.old core.new result }
 {
-    let Some(connection) = core.tables.connection_at(row) else {
+    let Some(connection) = core.tables.at::<Connection>(row) else {
         return Status::NotNow;
     };
     let Some(mut session) = connection.session else {
@@ -48,8 +49,7 @@ fn is_enough(len: usize, body: Body<'_>) -> bool
 }
 
 // Gives a block of the answer that a session holds: one that is absent is refused first, then a wrong length.
-pub fn give(session: &Session, row: usize, number: u8, body: Body<'_>, reply: &mut [u8]) -> usize
-    requires row { row < 4 }
+pub fn give(session: &Session, row: Row, number: u8, body: Body<'_>, reply: &mut [u8]) -> usize
     requires proper { Proper (shape_of body) }
     requires room { 258 ≤ length reply.old }
     ensures len { result ≡ length (block_given row (shape_of body.entry) (cut_block session.now.container (answer_in session.now.talk) number)) }

@@ -12,19 +12,18 @@ use crate::row::{idle_row, with_session};
 use apdu::Status;
 use manage::Core;
 use session::{Heard, Session};
+use table_rows::Row;
 use tables::Connection;
 
 // 92 and row × 2, one higher or not.
-pub fn taken(row: usize, higher: bool) -> Status
-    requires { row < 4 }
+pub fn taken(row: Row, higher: bool) -> Status
     ensures { result ≡ sw.Taken (row * 2 + flag higher) }
 {
-    Status::Taken(row as u8 * 2 + u8::from(higher))
+    Status::Taken(row.byte() * 2 + u8::from(higher))
 }
 
 // What is said of an event that changes nothing but the session.
-pub fn said(row: usize, heard: Heard) -> Status
-    requires { row < 4 }
+pub fn said(row: Row, heard: Heard) -> Status
     ensures { result ≡ said row heard }
 {
     match heard {
@@ -37,8 +36,7 @@ pub fn said(row: usize, heard: Heard) -> Status
 }
 
 // A command that does not open as it must: the session goes idle, and the failure is counted.
-pub fn fail(core: &mut Core, row: usize, connection: Connection, container: u8) -> Status
-    requires { row < 4 }
+pub fn fail(core: &mut Core, row: Row, connection: Connection, container: u8) -> Status
     ensures { Said (says (failed (core_of core.old) (talks (core_of core.old) row (connection_of connection) container idle) (core_of core.old).pending) sw.NotAuthentic) core.old core.new result }
 {
     core.tables
@@ -48,8 +46,7 @@ pub fn fail(core: &mut Core, row: usize, connection: Connection, container: u8) 
 }
 
 // A command that opens, beyond the limit: the connection is removed.
-pub fn remove(core: &mut Core, row: usize) -> Status
-    requires { row < 4 }
+pub fn remove(core: &mut Core, row: Row) -> Status
     ensures { Said (says (put (core_of core.old) (without_connection (core_of core.old).tables row) (core_of core.old).pending) sw.LimitPassed) core.old core.new result }
 {
     core.tables.remove_connection(row);
@@ -57,8 +54,7 @@ pub fn remove(core: &mut Core, row: usize) -> Status
 }
 
 // The session goes on as it is now, and holds no answer.
-pub fn go_on(core: &mut Core, row: usize, connection: Connection, session: Session)
-    requires row { row < 4 }
+pub fn go_on(core: &mut Core, row: Row, connection: Connection, session: Session)
     requires silent { holds_talk (talk_of session.talk) ≡ false }
     ensures core { core_of core.new ≡ put (core_of core.old) (talks (core_of core.old) row (connection_of connection) session.container (talk_of session.talk)) (core_of core.old).pending }
     ensures answers { Keeps core.old.tables core.new.tables }

@@ -16,6 +16,7 @@ use application::Application;
 use manage::Core;
 use sealing::Sealer;
 use session::{Event, Heard, Session};
+use table_rows::Row;
 use tables::Connection;
 
 // A block that was joined to those before: the last one completes the command, any other is kept.
@@ -23,12 +24,11 @@ fn join<S: Sealer, A: Application>(
     core: &mut Core,
     sealer: &S,
     application: &mut A,
-    row: usize,
+    row: Row,
     connection: &Connection,
     session: &Session,
     p2: u8,
 ) -> Status
-    requires row { row < 4 }
     requires gathers { talk_of session.now.talk ≡ gathering (before (talk_of session.now.talk)) (last_of (talk_of session.now.talk)) }
     ensures { carries S.Sealer.seals A.Application.acts (state_of core.old (A.Application.contents application.old)) (completes S.Sealer.seals (core_of core.old) row (connection_of connection.now) session.now.container (last_of (talk_of session.now.talk)) (before (talk_of session.now.talk)) (p2 == 0)) ≡ ended core.new (A.Application.contents application.new) result }
 {
@@ -44,14 +44,13 @@ pub fn block<S: Sealer, A: Application>(
     core: &mut Core,
     sealer: &S,
     application: &mut A,
-    row: usize,
+    row: Row,
     p2: u8,
     body: Body<'_>,
 ) -> Status
-    requires { row < 4 }
     ensures { carries S.Sealer.seals A.Application.acts (state_of core.old (A.Application.contents application.old)) (blocks S.Sealer.seals (core_of core.old) row p2 (shape_of body.entry) (slice_index_or (tables_of core.old.tables).connections row None)) ≡ ended core.new (A.Application.contents application.new) result }
 {
-    let Some(connection) = core.tables.connection_at(row) else {
+    let Some(connection) = core.tables.at::<Connection>(row) else {
         return Status::NotNow;
     };
     let Some(mut session) = connection.session else {
