@@ -59,8 +59,7 @@ impl Core {
         }
     }
     // A whole object is carried out.
-    fn carry_out(&mut self, kind: Kind, value: &[u8], random: &[u8], area: &mut [u8]) -> Status
-        requires random { length random.now ≡ 32 }
+    fn carry_out(&mut self, kind: Kind, value: &[u8], random: &[u8; 32], area: &mut [u8]) -> Status
         requires area { 64 ≤ length area.old }
         ensures { Said (decides keyed (core_of self.old) random.now (kind_of kind) (asked (kind_of kind) value.now) (verdict keyed (tables_of self.old.tables) random.now (asked (kind_of kind) value.now))) self.old self.new result }
     {
@@ -71,8 +70,7 @@ impl Core {
     }
 
     // Joined blocks: no object, the beginning of one, or a whole one.
-    fn judge(&mut self, kind: Kind, bytes: &[u8], random: &[u8], area: &mut [u8]) -> Status
-        requires random { length random.now ≡ 32 }
+    fn judge(&mut self, kind: Kind, bytes: &[u8], random: &[u8; 32], area: &mut [u8]) -> Status
         requires area { 64 ≤ length area.old }
         ensures { Said (joined keyed (core_of self.old) random.now (kind_of kind) bytes.now (object bytes.now)) self.old self.new result }
     {
@@ -94,12 +92,11 @@ impl Core {
         kind: Kind,
         gathered: &[u8],
         body: Body<'_>,
-        random: &[u8],
+        random: &[u8; 32],
         area: &mut [u8],
     ) -> Status
         requires gathered { length gathered.now ≤ 288 }
         requires proper { Proper (shape_of body) }
-        requires random { length random.now ≡ 32 }
         requires area { 64 ≤ length area.old }
         ensures { Said (joins keyed (core_of self.old) random.now (kind_of kind) gathered.now (shape_of body.entry)) self.old self.new result }
     {
@@ -112,9 +109,14 @@ impl Core {
     }
 
     // P2 80: a first command block.
-    pub fn begin(&mut self, kind: Kind, body: Body<'_>, random: &[u8], area: &mut [u8]) -> Status
+    pub fn begin(
+        &mut self,
+        kind: Kind,
+        body: Body<'_>,
+        random: &[u8; 32],
+        area: &mut [u8],
+    ) -> Status
         requires proper { Proper (shape_of body) }
-        requires random { length random.now ≡ 32 }
         requires area { 64 ≤ length area.old }
         ensures { Said (joins keyed (core_of self.old) random.now (kind_of kind) [] (shape_of body.entry)) self.old self.new result }
     {
@@ -127,11 +129,10 @@ impl Core {
         kind: Kind,
         gathered: Gathered,
         body: Body<'_>,
-        random: &[u8],
+        random: &[u8; 32],
         area: &mut [u8],
     ) -> Status
         requires proper { Proper (shape_of body) }
-        requires random { length random.now ≡ 32 }
         requires area { 64 ≤ length area.old }
         ensures { Said (continues_as keyed (core_of self.old) random.now (kind_of kind) (held gathered.bytes) (shape_of body.entry) (same_kind (kind_of gathered.kind) (kind_of kind))) self.old self.new result }
     {
@@ -142,9 +143,14 @@ impl Core {
     }
 
     // P2 00: a next command block, which joins what was gathered.
-    pub fn resume(&mut self, kind: Kind, body: Body<'_>, random: &[u8], area: &mut [u8]) -> Status
+    pub fn resume(
+        &mut self,
+        kind: Kind,
+        body: Body<'_>,
+        random: &[u8; 32],
+        area: &mut [u8],
+    ) -> Status
         requires proper { Proper (shape_of body) }
-        requires random { length random.now ≡ 32 }
         requires area { 64 ≤ length area.old }
         ensures { Said (continues keyed (core_of self.old) random.now (kind_of kind) (shape_of body.entry) (pending_of self.old.pending)) self.old self.new result }
     {
