@@ -1,10 +1,9 @@
 -- The code's types, as the rules speak of them.
-use Rattle.std.specs.Prelude.{◌<◌}
 use Rattle.apdu.specs.View.{shape_of}
 use Rattle.apdu.specs.Writing.{Proper}
 use Rattle.law.specs.Request as line
-use Rattle.request.specs.declared.kind.Kind.{Kind}
-use Rattle.request.specs.declared.kind.Kind.TheVariants.{Discovery, Master, Connection, Start, Terminate}
+use Rattle.apdu.specs.declared.kind.Kind.{Kind}
+use Rattle.apdu.specs.declared.kind.Kind.TheVariants.{Discovery, Master, Connection, Start, Terminate}
 use Rattle.request.specs.declared.request.Request.{Request}
 use Rattle.request.specs.declared.request.Request.TheVariants.{Malformed, Other, Unlisted, Begin, Continue, Discover, Answer, GoOn, Block, Fetch, Discard}
 
@@ -28,11 +27,11 @@ asks (Block b) = line.block b.row b.p2 (shape_of b.body)
 asks (Fetch f) = line.fetch f.row f.number (shape_of f.body)
 asks (Discard d) = line.discard d.row (shape_of d.body)
 
--- A request is well formed: its row is one of the four, data has 1 to 255 bytes, and Le asks for 1 to 256.
+-- A request is well formed: data has 1 to 255 bytes, and Le asks for 1 to 256. (Its row is one of the four by its type.)
 abbrev pub Formed : Request → Type 0
-Formed (Block b) = (b.row < 4) × Proper (shape_of b.body)
-Formed (Fetch f) = (f.row < 4) × Proper (shape_of f.body)
-Formed (Discard d) = (d.row < 4) × Proper (shape_of d.body)
+Formed (Block b) = Proper (shape_of b.body)
+Formed (Fetch f) = Proper (shape_of f.body)
+Formed (Discard d) = Proper (shape_of d.body)
 Formed Malformed = Unit {0}
 Formed Other = Unit {0}
 Formed Unlisted = Unit {0}

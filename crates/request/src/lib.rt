@@ -1,9 +1,8 @@
 // What a command asks of the card.
 #![tactic(auto)]
 
-mod kind;
 mod read;
 mod request;
 
-pub use kind::Kind;
+pub use apdu::Kind;
 pub use request::{Block, Discard, Fetch, Request};

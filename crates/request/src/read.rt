@@ -5,9 +5,9 @@ ghost use Rattle.apdu.specs.Writing.{Proper};
 ghost use Rattle.law.specs.Request.{discovers, terminates, by_p2, manages, transacts, by_header, request};
 ghost use Rattle.request.specs.View.{kind_of, asks, Formed};
 
-use crate::kind::Kind;
 use crate::request::{Block, Discard, Fetch, Request};
-use apdu::{Apdu, Body};
+use apdu::{Apdu, Body, Kind};
+use rows::Row;
 
 impl<'a> Request<'a> {
     // A discovery, by P2.
@@ -57,13 +57,11 @@ impl<'a> Request<'a> {
         ensures asks { asks result ≡ manages p1 p2 (shape_of body.entry) }
         ensures formed { Formed result }
     {
-        match p1 {
-            0x00 => Request::discovery(p2, body),
-            0x01 => Request::exchange(Kind::Master, p2, body),
-            0x02 => Request::exchange(Kind::Connection, p2, body),
-            0x03 => Request::exchange(Kind::Start, p2, body),
-            0x04 => Request::termination(p2, body),
-            _ => Request::Unlisted,
+        match Kind::try_from(p1) {
+            Ok(Kind::Discovery) => Request::discovery(p2, body),
+            Ok(Kind::Terminate) => Request::termination(p2, body),
+            Ok(kind) => Request::exchange(kind, p2, body),
+            Err(_) => Request::Unlisted,
         }
     }
 
@@ -73,7 +71,7 @@ impl<'a> Request<'a> {
         ensures asks { asks result ≡ transacts p1 p2 (shape_of body.entry) }
         ensures formed { Formed result }
     {
-        let row = p1 / 64;
+        let row = Row::of_p1(p1);
         match p1 % 64 {
             0 => Request::Block(Block { row, p2, body }),
             1 => Request::Fetch(Fetch {

@@ -1,11 +1,11 @@
 // What is asked, with what stands behind the header.
-use crate::kind::Kind;
-use apdu::Body;
+use apdu::{Body, Kind};
+use rows::Row;
 
 // A block of a session's command: the session's row, how many blocks follow, and what stands behind the header.
 #[derive(Clone, Copy)]
 pub struct Block<'a> {
-    pub row: u8,
+    pub row: Row,
     pub p2: u8,
     pub body: Body<'a>,
 }
@@ -13,7 +13,7 @@ pub struct Block<'a> {
 // The fetch of a block of a session's answer: the session's row, the block's number from 0, and what stands behind.
 #[derive(Clone, Copy)]
 pub struct Fetch<'a> {
-    pub row: u8,
+    pub row: Row,
     pub number: u8,
     pub body: Body<'a>,
 }
@@ -21,7 +21,7 @@ pub struct Fetch<'a> {
 // The discard of a session's answer: the session's row, and what stands behind the header.
 #[derive(Clone, Copy)]
 pub struct Discard<'a> {
-    pub row: u8,
+    pub row: Row,
     pub body: Body<'a>,
 }
 

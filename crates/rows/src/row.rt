@@ -1,0 +1,63 @@
+// The number of a row.
+ghost use Rattle.std.specs.Prelude.{◌≡◌, ◌<◌, ◌/◌, if◌then◌else◌, nat_lt, Some, None};
+
+use std::marker::Model;
+
+// One of the four rows of a table. A clause reads it as its number.
+#[derive(Clone, Copy, PartialEq, Eq, Debug)]
+pub struct Row {
+    number: u8,
+}
+
+impl Model for Row {
+    ghost use Rattle.std.specs.Prelude.{ℕ, ◌<◌};
+
+    ghost Value = { ℕ };
+
+    ghost view = { λ r. r.number };
+
+    ghost invariant = { λ r. r.number < 4 };
+
+    ghost inverse = { λ n. record { number = n } };
+}
+
+impl Row {
+    // The first row.
+    pub const FIRST: Row = Row { number: 0 };
+
+    // The row that the two high bits of a P1 name.
+    pub fn of_p1(p1: u8) -> Row
+        ensures { result ≡ p1 / 64 }
+    {
+        Row { number: p1 / 64 }
+    }
+
+    // The row of this number; none where there is no such row.
+    pub fn at(number: usize) -> Option<Row>
+        ensures { result ≡ (if nat_lt number 4 then Some number else None) }
+    {
+        if number < 4 {
+            Some(Row {
+                number: number as u8,
+            })
+        } else {
+            None
+        }
+    }
+
+    // Its number, as the index of an array of four.
+    pub fn index(self) -> usize
+        ensures is { result ≡ self }
+        ensures within { result < 4 }
+    {
+        usize::from(self.number)
+    }
+
+    // Its number, as a byte.
+    pub fn byte(self) -> u8
+        ensures is { result ≡ self }
+        ensures within { result < 4 }
+    {
+        self.number
+    }
+}
