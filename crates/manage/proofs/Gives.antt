@@ -9,7 +9,7 @@ use Rattle.apdu.specs.declared.status.Status.{Status}
 use Rattle.apdu.specs.declared.status.Status.TheVariants.{MoreToFetch, Done}
 use Rattle.replies.specs.Blocks.{Part, block_of}
 use Rattle.request.specs.View.{kind_of}
-use Rattle.request.specs.declared.kind.Kind.{Kind}
+use Rattle.apdu.specs.declared.kind.Kind.{Kind}
 use Rattle.law.specs.Calls.{replied}
 use Rattle.law.specs.Step.{Move, does, given, put, waits}
 use Rattle.manage.specs.declared.pending.Pending.TheVariants as pending

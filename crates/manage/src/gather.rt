@@ -16,11 +16,10 @@ use crate::card_core::Core;
 use crate::join::join;
 use crate::pending::{Gathered, Pending, Waiting};
 use crate::shape::data_alone;
-use apdu::{Body, Status};
+use apdu::{Body, Kind, Status};
 use associate::carry_out;
 use buffer::{Buffer, ROOM};
 use objects::join::Joined;
-use request::Kind;
 
 // The most bytes of blocks that are joined: what a buffer holds, and one block more.
 const JOINED: usize = ROOM + 255;
@@ -136,7 +135,7 @@ impl Core {
         requires area { 64 ≤ length area.old }
         ensures { Said (continues_as keyed (core_of self.old) random.now (kind_of kind) (held gathered.bytes) (shape_of body.entry) (same_kind (kind_of gathered.kind) (kind_of kind))) self.old self.new result }
     {
-        if !gathered.kind.same(kind) {
+        if gathered.kind != kind {
             return Status::WrongParameters;
         }
         self.join(kind, gathered.bytes.as_slice(), body, random, area)

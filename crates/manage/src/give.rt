@@ -12,12 +12,11 @@ use crate::card_core::Core;
 use crate::pending::{Pending, Waiting};
 use crate::shape::le_alone;
 use crate::told::Told;
-use apdu::{Body, Status};
+use apdu::{Body, Kind, Status};
 use associate::object;
 use buffer::Buffer;
 use replies::block::reply_block;
 use replies::reply::{DiscoveryReply, Reply};
-use request::Kind;
 
 impl Core {
     // Gives up to so many bytes of a reply from a place on, and remembers how far that went.
@@ -59,7 +58,7 @@ impl Core {
         requires proper { Proper (shape_of body) }
         ensures { Replied (replies_as (core_of self.old) (kind_of kind) (held waiting.reply) waiting.given (shape_of body.entry) (same_kind (kind_of waiting.kind) (kind_of kind))) self.old self.new result }
     {
-        if !waiting.kind.same(kind) {
+        if waiting.kind != kind {
             return self.say(Status::WrongParameters);
         }
         self.give(Waiting { kind, ..waiting }, body)
