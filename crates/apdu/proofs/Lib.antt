@@ -1,3 +1,3 @@
-pub mod Fronts
 pub mod StatusFacts
 pub mod ReadBack
+pub mod Proper

@@ -42,3 +42,7 @@ status_words WrongParameters = codes "wrong P1 or P2"
 status_words NoSuchIdentifier = codes "no such identifier"
 status_words UnknownInstruction = codes "unknown instruction"
 status_words (Taken n) = codes "session block taken"
+
+-- What is said of two bytes that are none.
+abbrev pub no_status_words : List ℕ
+no_status_words = codes "no such status word"

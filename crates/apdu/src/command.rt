@@ -1,17 +1,5 @@
-// A command APDU and its parts.
-
-// What stands behind the header of a command.
-#[derive(Clone, Copy)]
-pub enum Body<'a> {
-    // Nothing.
-    Bare,
-    // Le alone: how many bytes of reply are wanted, 1 to 256.
-    Le(u16),
-    // Data alone, 1 to 255 bytes.
-    Data(&'a [u8]),
-    // Data, and how many bytes of reply are wanted.
-    Both(&'a [u8], u16),
-}
+// A command APDU.
+use crate::body::Body;
 
 // A command: its header and what stands behind it.
 #[derive(Clone, Copy)]

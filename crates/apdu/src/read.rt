@@ -1,18 +1,23 @@
 // Reading the bytes of a command.
-ghost use Rattle.std.specs.Prelude.{◌≡◌, length, OnSome};
+ghost use Rattle.std.specs.Prelude.{◌≡◌, OnSome};
 ghost use Rattle.std.specs.Option.{option_map};
 ghost use Rattle.byte_lists.specs.Bytes.{Bytes};
 ghost use Rattle.apdu.specs.Command.{expected, shape_in, command_in, data_of};
 ghost use Rattle.apdu.specs.Writing.{Reads};
 ghost use Rattle.apdu.specs.View.{shape_of, command_of};
 
-use crate::command::{Apdu, Body};
+use crate::body::{Body, Data, Le};
+use crate::command::Apdu;
 
-// How many bytes an Le byte asks for.
-fn expected_len(le: u8) -> u16
-    ensures { result ≡ expected le }
-{
-    if le == 0 { 256 } else { u16::from(le) }
+// What an Le byte asks for.
+impl From<u8> for Le {
+    ghost from_gives = { λ byte le. le.wanted ≡ expected byte };
+
+    fn from(byte: u8) -> Le {
+        Le {
+            wanted: if byte == 0 { 256 } else { u16::from(byte) },
+        }
+    }
 }
 
 impl<'a> Body<'a> {
@@ -20,24 +25,16 @@ impl<'a> Body<'a> {
     fn read(bytes: &'a [u8]) -> Option<Body<'a>>
         ensures { option_map shape_of result ≡ shape_in bytes.now }
     {
-        if bytes.is_empty() {
-            return Some(Body::Bare);
+        match bytes {
+            [] => Some(Body::Bare),
+            [le] => Some(Body::Le(Le::from(*le))),
+            [0, ..] => None,
+            [lc, rest @ ..] => match rest.split_at_checked(usize::from(*lc))? {
+                (bytes, []) => Some(Body::Data(Data { bytes })),
+                (bytes, [le]) => Some(Body::Both(Data { bytes }, Le::from(*le))),
+                _ => None,
+            },
         }
-        let first = bytes[0];
-        if bytes.len() == 1 {
-            return Some(Body::Le(expected_len(first)));
-        }
-        let lc = first as usize;
-        if lc == 0 {
-            return None;
-        }
-        if bytes.len() == lc + 1 {
-            return Some(Body::Data(&bytes[1..lc + 1]));
-        }
-        if bytes.len() == lc + 2 {
-            return Some(Body::Both(&bytes[1..lc + 1], expected_len(bytes[lc + 1])));
-        }
-        None
     }
 
     // The data, empty where there is none.
@@ -45,10 +42,8 @@ impl<'a> Body<'a> {
         ensures { result.now ≡ data_of (shape_of self.now) }
     {
         match *self {
-            Body::Data(bytes) => bytes,
-            Body::Both(bytes, _) => bytes,
-            Body::Bare => &[],
-            Body::Le(_) => &[],
+            Body::Data(data) | Body::Both(data, _) => data.bytes,
+            Body::Bare | Body::Le(_) => &[],
         }
     }
 }
@@ -59,19 +54,15 @@ impl<'a> Apdu<'a> {
         ensures command { option_map command_of result ≡ command_in bytes.now }
         ensures bytes { OnSome result (Bytes bytes.now) }
     {
-        if bytes.len() < 4 {
-            return None;
-        }
-        let (_, behind) = bytes.split_at(4);
-        let Some(body) = Body::read(behind) else {
+        let [cla, ins, p1, p2, behind @ ..] = bytes else {
             return None;
         };
         Some(Apdu {
-            cla: bytes[0],
-            ins: bytes[1],
-            p1: bytes[2],
-            p2: bytes[3],
-            body,
+            cla: *cla,
+            ins: *ins,
+            p1: *p1,
+            p2: *p2,
+            body: Body::read(behind)?,
         })
     }
 
@@ -81,12 +72,5 @@ impl<'a> Apdu<'a> {
         ensures exact { Reads bytes.now (option_map command_of result) }
     {
         Apdu::parts(bytes)
-    }
-
-    // The data, empty where there is none.
-    pub fn data(&self) -> &'a [u8]
-        ensures { result.now ≡ data_of (command_of self.now).shape }
-    {
-        self.body.data()
     }
 }

@@ -4,23 +4,14 @@ ghost use Rattle.apdu.specs.Reply.{fronted, reply};
 
 use crate::status::Status;
 
-// Writes the bytes at the start of the buffer, and leaves the rest.
-fn put(buffer: &mut [u8], bytes: &[u8])
-    requires { length bytes.now ≤ length buffer.old }
-    ensures { buffer.new ≡ fronted bytes.now buffer.old }
-{
-    let n = bytes.len();
-    buffer[0..n].copy_from_slice(bytes);
-}
-
 // Writes the status word alone at the start of the buffer, leaves the rest, and gives the reply's length.
 pub fn put_status(buffer: &mut [u8], status: Status) -> usize
     requires { 2 ≤ length buffer.old }
     ensures len { result ≡ length (reply [] status) }
     ensures written { buffer.new ≡ fronted (reply [] status) buffer.old }
 {
-    let bytes = status.bytes();
-    put(buffer, &bytes);
+    let bytes = <[u8; 2]>::from(status);
+    buffer[..2].copy_from_slice(&bytes);
     bytes.len()
 }
 
@@ -31,6 +22,6 @@ pub fn put_reply(buffer: &mut [u8], data: &[u8], status: Status) -> usize
     ensures written { buffer.new ≡ fronted (reply «data».now status) buffer.old }
 {
     let n = data.len();
-    put(buffer, data);
+    buffer[..n].copy_from_slice(data);
     n + put_status(&mut buffer[n..], status)
 }

@@ -1,7 +1,7 @@
 // The status words that end every reply.
 
 // Why a reply ends, each case with two bytes of its own.
-#[derive(Clone, Copy)]
+#[derive(Clone, Copy, PartialEq, Eq, Debug)]
 pub enum Status {
     // 90 00: carried out, and nothing is left to fetch.
     Done,
@@ -38,3 +38,7 @@ pub enum Status {
     // 92 and a byte: a session block was taken; the byte tells the row, and whether there is more.
     Taken(u8),
 }
+
+// The two bytes are no status word.
+#[derive(Clone, Copy, PartialEq, Eq, Debug)]
+pub struct NoSuchStatus;

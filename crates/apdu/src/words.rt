@@ -1,15 +1,18 @@
 // The bytes of a status word, and what it says in words.
-ghost use Rattle.std.specs.Prelude.{◌≡◌, [], ◌∷◌, MatchOption, ◌≢◌};
-ghost use Rattle.apdu.specs.StatusWords.{status_bytes, status_words};
+ghost use Rattle.std.specs.Prelude.{◌≡◌, Some, MatchResult, ◌≢◌};
+ghost use Rattle.apdu.specs.StatusWords.{status_bytes, status_words, no_status_words};
+ghost use Rattle.apdu.specs.declared.status.Status.{Status as StatusOf};
 
-use crate::status::Status;
+use crate::status::{NoSuchStatus, Status};
+use std::error::Error;
+use std::fmt;
 
-impl Status {
-    // SW1 and SW2.
-    pub fn bytes(self) -> [u8; 2]
-        ensures { result ≡ status_bytes self }
-    {
-        match self {
+// SW1 and SW2.
+impl From<Status> for [u8; 2] {
+    ghost from_gives = { λ s bytes. bytes ≡ status_bytes s };
+
+    fn from(status: Status) -> [u8; 2] {
+        match status {
             Status::Done => [0x90, 0x00],
             Status::MoreToFetch => [0x62, 0xF1],
             Status::ReplyWaits => [0x62, 0xF3],
@@ -29,37 +32,44 @@ impl Status {
             Status::Taken(sw2) => [0x92, sw2],
         }
     }
-    // The status word with these two bytes; `None` where there is none.
-    pub fn read(sw1: u8, sw2: u8) -> Option<Status>
-        ensures { MatchOption result ((s : Status) → status_bytes s ≢ sw1 ∷ sw2 ∷ []) (λ s. status_bytes s ≡ sw1 ∷ sw2 ∷ []) }
-    {
-        match (sw1, sw2) {
-            (0x90, 0x00) => Some(Status::Done),
-            (0x62, 0xF1) => Some(Status::MoreToFetch),
-            (0x62, 0xF3) => Some(Status::ReplyWaits),
-            (0x63, 0xF1) => Some(Status::MoreToSend),
-            (0x64, 0x00) => Some(Status::NotPossible),
-            (0x67, 0x00) => Some(Status::WrongLength),
-            (0x69, 0x83) => Some(Status::LimitPassed),
-            (0x69, 0x85) => Some(Status::NotNow),
-            (0x69, 0x88) => Some(Status::NotAuthentic),
-            (0x69, 0x89) => Some(Status::ChannelRequired),
-            (0x6A, 0x80) => Some(Status::WrongData),
-            (0x6A, 0x83) => Some(Status::NoSuchRecord),
-            (0x6A, 0x84) => Some(Status::NoRoom),
-            (0x6A, 0x86) => Some(Status::WrongParameters),
-            (0x6A, 0x88) => Some(Status::NoSuchIdentifier),
-            (0x6D, 0x00) => Some(Status::UnknownInstruction),
-            (0x92, row) => Some(Status::Taken(row)),
-            _ => None,
+}
+
+// The status word with these two bytes.
+impl TryFrom<[u8; 2]> for Status {
+    type Error = NoSuchStatus;
+
+    ghost try_from_gives = { λ bytes read. MatchResult read (λ s. status_bytes s ≡ bytes) (λ _. (s : StatusOf) → status_bytes s ≢ bytes) };
+
+    fn try_from(bytes: [u8; 2]) -> Result<Status, NoSuchStatus> {
+        match bytes {
+            [0x90, 0x00] => Ok(Status::Done),
+            [0x62, 0xF1] => Ok(Status::MoreToFetch),
+            [0x62, 0xF3] => Ok(Status::ReplyWaits),
+            [0x63, 0xF1] => Ok(Status::MoreToSend),
+            [0x64, 0x00] => Ok(Status::NotPossible),
+            [0x67, 0x00] => Ok(Status::WrongLength),
+            [0x69, 0x83] => Ok(Status::LimitPassed),
+            [0x69, 0x85] => Ok(Status::NotNow),
+            [0x69, 0x88] => Ok(Status::NotAuthentic),
+            [0x69, 0x89] => Ok(Status::ChannelRequired),
+            [0x6A, 0x80] => Ok(Status::WrongData),
+            [0x6A, 0x83] => Ok(Status::NoSuchRecord),
+            [0x6A, 0x84] => Ok(Status::NoRoom),
+            [0x6A, 0x86] => Ok(Status::WrongParameters),
+            [0x6A, 0x88] => Ok(Status::NoSuchIdentifier),
+            [0x6D, 0x00] => Ok(Status::UnknownInstruction),
+            [0x92, row] => Ok(Status::Taken(row)),
+            _ => Err(NoSuchStatus),
         }
     }
+}
 
-    // What the status word says, in words.
-    pub fn words(self) -> &'static str
-        ensures { result.now ≡ status_words self }
-    {
-        match self {
+// What the status word says, in words.
+impl fmt::Display for Status {
+    ghost output = { λ s. Some (status_words s) };
+
+    fn fmt<W: fmt::Write>(&self, f: &mut fmt::Formatter<W>) -> fmt::Result {
+        f.write_str(match self {
             Status::Done => "done",
             Status::MoreToFetch => "more of the reply is left to fetch",
             Status::ReplyWaits => "done, a reply waits to be fetched",
@@ -77,6 +87,16 @@ impl Status {
             Status::NoSuchIdentifier => "no such identifier",
             Status::UnknownInstruction => "unknown instruction",
             Status::Taken(_) => "session block taken",
-        }
+        })
     }
 }
+
+impl fmt::Display for NoSuchStatus {
+    ghost output = { λ _. Some no_status_words };
+
+    fn fmt<W: fmt::Write>(&self, f: &mut fmt::Formatter<W>) -> fmt::Result {
+        f.write_str("no such status word")
+    }
+}
+
+impl Error for NoSuchStatus {}

@@ -7,14 +7,6 @@ use fares::FareCounter;
 use records::RecordFile;
 use show::spaced;
 
-// What a status word says.
-fn words_of(sw1: u8, sw2: u8) -> &'static str {
-    match Status::read(sw1, sw2) {
-        Some(status) => status.words(),
-        None => "no such status word",
-    }
-}
-
 // Runs one command, and shows it with its reply and what the status word says.
 fn show_command<A: Application>(
     rt: &HostRuntime,
@@ -30,11 +22,13 @@ fn show_command<A: Application>(
     let [.., sw1, sw2] = reply else {
         return Err(anyhow!("a reply without a status word"));
     };
-    let words = words_of(*sw1, *sw2);
     let sent = spaced(heap, command)?;
     let came = spaced(heap, reply)?;
     println!(rt; "  > {sent}")?;
-    println!(rt; "  < {came}  {words}")?;
+    match Status::try_from([*sw1, *sw2]) {
+        Ok(status) => println!(rt; "  < {came}  {status}")?,
+        Err(unknown) => println!(rt; "  < {came}  {unknown}")?,
+    }
     Ok(())
 }
 

@@ -35,7 +35,7 @@ impl FareCounter {
     {
         match apdu.ins {
             APPEND => {
-                let status = self.append(apdu.data());
+                let status = self.append(apdu.body.data());
                 put_status(buffer, status)
             }
             TOTAL => put_reply(buffer, &eight_bytes(self.total()), Status::Done),

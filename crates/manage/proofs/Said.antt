@@ -15,7 +15,7 @@ use Rattle.manage.specs.declared.card_core.Core.{Core}
 use Rattle.manage.specs.declared.told.Told.{Told}
 use Rattle.manage.specs.Told.{bytes_of}
 use Rattle.manage.specs.View.{core_of, Said, Replied}
-use Rattle.manage.specs.Shapes.{le_alone, data_alone}
+use Rattle.apdu.specs.Alone.{le_alone, data_alone}
 use Rattle.manage.proofs.Stays.{stays}
 
 -- A status word that is told, and nothing changes.

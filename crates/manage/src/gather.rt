@@ -2,7 +2,6 @@
 ghost use Rattle.std.specs.Prelude.{◌≡◌, ◌<◌, ◌≤◌, [], length};
 ghost use Rattle.buffer.specs.Held.{held};
 ghost use Rattle.apdu.specs.View.{shape_of};
-ghost use Rattle.apdu.specs.Writing.{Proper};
 ghost use Rattle.objects.specs.Joined.{object};
 ghost use Rattle.request.specs.View.{kind_of};
 ghost use Rattle.law.specs.Request.{asked, same_kind};
@@ -15,7 +14,6 @@ ghost use Rattle.manage.specs.View.{core_of, pending_of, with_pending, refused_c
 use crate::card_core::Core;
 use crate::join::join;
 use crate::pending::{Gathered, Pending, Waiting};
-use crate::shape::data_alone;
 use apdu::{Body, Kind, Status};
 use associate::carry_out;
 use buffer::{Buffer, ROOM};
@@ -95,15 +93,14 @@ impl Core {
         area: &mut [u8],
     ) -> Status
         requires gathered { length gathered.now ≤ 288 }
-        requires proper { Proper (shape_of body) }
         requires area { 64 ≤ length area.old }
         ensures { Said (joins keyed (core_of self.old) random.now (kind_of kind) gathered.now (shape_of body.entry)) self.old self.new result }
     {
-        let Some(part) = data_alone(body) else {
+        let Some(part) = body.data_alone() else {
             return Status::WrongLength;
         };
         let mut joined = [0; JOINED];
-        let len = join(&mut joined, gathered, part);
+        let len = join(&mut joined, gathered, part.bytes);
         self.judge(kind, &joined[..len], random, area)
     }
 
@@ -115,7 +112,6 @@ impl Core {
         random: &[u8; 32],
         area: &mut [u8],
     ) -> Status
-        requires proper { Proper (shape_of body) }
         requires area { 64 ≤ length area.old }
         ensures { Said (joins keyed (core_of self.old) random.now (kind_of kind) [] (shape_of body.entry)) self.old self.new result }
     {
@@ -131,7 +127,6 @@ impl Core {
         random: &[u8; 32],
         area: &mut [u8],
     ) -> Status
-        requires proper { Proper (shape_of body) }
         requires area { 64 ≤ length area.old }
         ensures { Said (continues_as keyed (core_of self.old) random.now (kind_of kind) (held gathered.bytes) (shape_of body.entry) (same_kind (kind_of gathered.kind) (kind_of kind))) self.old self.new result }
     {
@@ -149,7 +144,6 @@ impl Core {
         random: &[u8; 32],
         area: &mut [u8],
     ) -> Status
-        requires proper { Proper (shape_of body) }
         requires area { 64 ≤ length area.old }
         ensures { Said (continues keyed (core_of self.old) random.now (kind_of kind) (shape_of body.entry) (pending_of self.old.pending)) self.old self.new result }
     {

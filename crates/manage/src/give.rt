@@ -2,7 +2,6 @@
 ghost use Rattle.std.specs.Prelude.{◌≡◌, ◌≤◌};
 ghost use Rattle.buffer.specs.Held.{held};
 ghost use Rattle.apdu.specs.View.{shape_of};
-ghost use Rattle.apdu.specs.Writing.{Proper};
 ghost use Rattle.request.specs.View.{kind_of};
 ghost use Rattle.law.specs.Request.{discovery, same_kind};
 ghost use Rattle.law.specs.Step.{says, given, gives_reply, replies_as, answers, goes_on, discovery_object};
@@ -10,9 +9,8 @@ ghost use Rattle.manage.specs.View.{core_of, pending_of, Replied};
 
 use crate::card_core::Core;
 use crate::pending::{Pending, Waiting};
-use crate::shape::le_alone;
 use crate::told::Told;
-use apdu::{Body, Kind, Status};
+use apdu::{Body, Kind, Le, Status};
 use associate::object;
 use buffer::Buffer;
 use replies::block::reply_block;
@@ -20,11 +18,10 @@ use replies::reply::{DiscoveryReply, Reply};
 
 impl Core {
     // Gives up to so many bytes of a reply from a place on, and remembers how far that went.
-    fn give_block(&mut self, waiting: Waiting, most: u16) -> Told
-        requires most { most ≤ 256 }
-        ensures { Replied (given (core_of self.old) (kind_of waiting.kind) (held waiting.reply) waiting.given most) self.old self.new result }
+    fn give_block(&mut self, waiting: Waiting, most: Le) -> Told
+        ensures { Replied (given (core_of self.old) (kind_of waiting.kind) (held waiting.reply) waiting.given most.wanted) self.old self.new result }
     {
-        let block = reply_block(waiting.reply.as_slice(), waiting.given, usize::from(most));
+        let block = reply_block(waiting.reply.as_slice(), waiting.given, usize::from(most.wanted));
         self.pending = Pending::Reply(Waiting {
             given: waiting.given + block.bytes.len(),
             ..waiting
@@ -38,10 +35,9 @@ impl Core {
     }
     // A reply block carries Le alone.
     fn give(&mut self, waiting: Waiting, body: Body<'_>) -> Told
-        requires proper { Proper (shape_of body) }
         ensures { Replied (gives_reply (core_of self.old) (kind_of waiting.kind) (held waiting.reply) waiting.given (shape_of body.entry)) self.old self.new result }
     {
-        let Some(most) = le_alone(body) else {
+        let Some(most) = body.le_alone() else {
             return self.say(Status::WrongLength);
         };
         self.give_block(waiting, most)
@@ -55,7 +51,6 @@ impl Core {
     }
     // P1 is to be that of the reply that waits.
     fn give_as(&mut self, kind: Kind, waiting: Waiting, body: Body<'_>) -> Told
-        requires proper { Proper (shape_of body) }
         ensures { Replied (replies_as (core_of self.old) (kind_of kind) (held waiting.reply) waiting.given (shape_of body.entry) (same_kind (kind_of waiting.kind) (kind_of kind))) self.old self.new result }
     {
         if waiting.kind != kind {
@@ -66,7 +61,6 @@ impl Core {
 
     // P2 A0: the reply that waits, from its first byte.
     pub fn answer(&mut self, kind: Kind, body: Body<'_>) -> Told
-        requires proper { Proper (shape_of body) }
         ensures { Replied (answers (core_of self.old) (kind_of kind) (shape_of body.entry) (pending_of self.old.pending)) self.old self.new result }
     {
         match self.pending {
@@ -83,7 +77,6 @@ impl Core {
 
     // P2 20: the reply that waits, from where the last block ended.
     pub fn go_on(&mut self, kind: Kind, body: Body<'_>) -> Told
-        requires proper { Proper (shape_of body) }
         ensures { Replied (goes_on (core_of self.old) (kind_of kind) (shape_of body.entry) (pending_of self.old.pending)) self.old self.new result }
     {
         match self.pending {
@@ -94,7 +87,6 @@ impl Core {
 
     // A discovery: what the card says of itself, made anew.
     pub fn discover(&mut self, body: Body<'_>) -> Told
-        requires proper { Proper (shape_of body) }
         ensures { Replied (gives_reply (core_of self.old) discovery (discovery_object self.old.required self.old.failures) 0 (shape_of body.entry)) self.old self.new result }
     {
         let waiting = Waiting {

@@ -6,7 +6,6 @@ mod gather;
 mod give;
 mod join;
 mod pending;
-mod shape;
 mod tell;
 mod told;
 

@@ -27,7 +27,7 @@ impl RecordFile {
         match apdu.ins {
             READ => self.read(apdu.p1, buffer),
             WRITE => {
-                let status = self.write(apdu.p1, apdu.data());
+                let status = self.write(apdu.p1, apdu.body.data());
                 put_status(buffer, status)
             }
             _ => put_status(buffer, Status::UnknownInstruction),

@@ -17,7 +17,8 @@ impl Block {
     pub fn comes_again(&self, p2: u8, body: Body<'_>) -> bool
         ensures { result ≡ repeats (answered (block_of self.now)) p2 (shape_of body.entry) }
     {
-        matches!(body, Body::Data(bytes) if self.is(p2, bytes))
+        body.data_alone()
+            .is_some_and(|data| self.is(p2, data.bytes))
     }
 }
 
@@ -25,10 +26,8 @@ impl Block {
 pub fn contents<'a>(container: u8, body: Body<'a>) -> Option<&'a [u8]>
     ensures { option_map (λ x. x.now) result ≡ contents container (shape_of body.entry) }
 {
-    match body {
-        Body::Data(bytes) if bytes.len() <= usize::from(container) => Some(bytes),
-        _ => None,
-    }
+    let bytes = body.data_alone()?.bytes;
+    (bytes.len() <= usize::from(container)).then_some(bytes)
 }
 
 impl Part {

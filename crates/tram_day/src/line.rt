@@ -1,6 +1,6 @@
 // A command and its replies, as people read them.
 use crate::cards::{Cards, Replies};
-use apdu::Status;
+use apdu::{NoSuchStatus, Status};
 use show::spaced;
 use std::alloc::{AllocError, Global};
 
@@ -13,17 +13,17 @@ pub fn data_of(reply: &[u8]) -> &[u8] {
 }
 
 // The status word that ends a reply.
-pub fn status_of(reply: &[u8]) -> Option<Status> {
+pub fn status_of(reply: &[u8]) -> Result<Status, NoSuchStatus> {
     match reply {
-        [.., sw1, sw2] => Status::read(*sw1, *sw2),
-        _ => None,
+        [.., sw1, sw2] => Status::try_from([*sw1, *sw2]),
+        _ => Err(NoSuchStatus),
     }
 }
 
 // Whether a session's block was taken with a second byte that is odd: a command is complete, or an answer goes on.
 pub fn is_marked(reply: &[u8]) -> bool {
     match status_of(reply) {
-        Some(Status::Taken(sw2)) => sw2 % 2 == 1,
+        Ok(Status::Taken(sw2)) => sw2 % 2 == 1,
         _ => false,
     }
 }
@@ -31,11 +31,10 @@ pub fn is_marked(reply: &[u8]) -> bool {
 // A reply in bytes, and its status word in words.
 pub fn told(heap: Global, reply: &[u8]) -> Result<String, AllocError> {
     let bytes = spaced(heap, reply)?;
-    let words = match status_of(reply) {
-        Some(status) => status.words(),
-        None => "no such status word",
-    };
-    format!(in heap; "{bytes}  {words}")
+    match status_of(reply) {
+        Ok(status) => format!(in heap; "{bytes}  {status}"),
+        Err(unknown) => format!(in heap; "{bytes}  {unknown}"),
+    }
 }
 
 // Shows a command and the reply that both cards give: in one line where it is a status word alone.

@@ -1,7 +1,6 @@
 // Fetching an answer, block by block, and discarding it.
 ghost use Rattle.std.specs.Prelude.{◌≡◌, None, slice_index_or};
 ghost use Rattle.apdu.specs.View.{shape_of};
-ghost use Rattle.apdu.specs.Writing.{Proper};
 ghost use Rattle.replies.specs.Blocks.{cut_block};
 ghost use Rattle.session.specs.View.{answer_in};
 ghost use Rattle.tables.specs.View.{tables_of};
@@ -37,7 +36,6 @@ impl<S: Sealer, A: Application> Parts<S, A> {
 
     // P1 + 1: a block of the answer that a session holds.
     pub fn fetch(&self, row: Row, number: u8, body: Body<'_>) -> Told
-        requires { Proper (shape_of body) }
         ensures { carries S.seals A.acts (state_of self.now.core (A.contents self.now.application)) (fetches (core_of self.now.core) row number (shape_of body.entry) (slice_index_or (tables_of self.now.core.tables).connections row None)) ≡ told self.now.core (A.contents self.now.application) result }
     {
         let Some(mut started) = Started::at(&self.core, row) else {
@@ -54,12 +52,12 @@ impl<S: Sealer, A: Application> Parts<S, A> {
 fn is_enough(len: usize, body: Body<'_>) -> bool
     ensures { result ≡ enough len (shape_of body.entry) }
 {
-    matches!(body, Body::Le(most) if len <= usize::from(most))
+    body.le_alone()
+        .is_some_and(|le| len <= usize::from(le.wanted))
 }
 
 // Gives a block of the answer that a session holds: one that is absent is refused first, then a wrong length.
 fn give(session: &Session, row: Row, number: u8, body: Body<'_>) -> Told
-    requires { Proper (shape_of body) }
     ensures { bytes_of result ≡ block_given row (shape_of body.entry) (cut_block session.now.container (answer_in session.now.talk) number) }
 {
     let Some(block) = session.answer_block(number) else {
