@@ -21,7 +21,11 @@ impl Core {
     fn give_block(&mut self, waiting: Waiting, most: Le) -> Told
         ensures { Replied (given (core_of self.old) (kind_of waiting.kind) (held waiting.reply) waiting.given most.wanted) self.old self.new result }
     {
-        let block = reply_block(waiting.reply.as_slice(), waiting.given, usize::from(most.wanted));
+        let block = reply_block(
+            waiting.reply.as_slice(),
+            waiting.given,
+            usize::from(most.wanted),
+        );
         self.pending = Pending::Reply(Waiting {
             given: waiting.given + block.bytes.len(),
             ..waiting

@@ -65,21 +65,14 @@ module _ (size : ℕ) (t : law.Talk) (p2 : ℕ) (s : Shape) where
   takes_block true = refl
   takes_block false = turns_block (in_turn t p2)
 
-  block_told : (𝓢 : Sealing) (c : law_step.Core) (row : ℕ) (x : law.Connection) (h : Result Heard Status) → h ≡ (heard size t (block p2 s)).0 → (h ≡ Ok Joined → ⊥)
-      → moved 𝓢 c row x size t p2 s h ≡ says c (said row h)
-  block_told 𝓢 c row x (Err w) e n = refl
-  block_told 𝓢 c row x (Ok (Repeated b)) e n = refl
-  block_told 𝓢 c row x (Ok Joined) e n = absurd (n refl)
-  block_told 𝓢 c row x (Ok Gives) e n = never (sym (ap of_block e ∙ takes_block (repeats t p2 s)))
-  block_told 𝓢 c row x (Ok Discarded) e n = never (sym (ap of_block e ∙ takes_block (repeats t p2 s)))
+  block_told : (𝓢 : Sealing) (c : law_step.Core) (row : ℕ) (x : law.Connection) (h : Heard) → Ok h ≡ (heard size t (block p2 s)).0 → (h ≡ Joined → ⊥)
+      → moved 𝓢 c row x size t p2 s (Ok h) ≡ says c (said row h)
+  block_told 𝓢 c row x (Repeated b) e n = refl
+  block_told 𝓢 c row x Joined e n = absurd (n refl)
+  block_told 𝓢 c row x Gives e n = never (sym (ap of_block e ∙ takes_block (repeats t p2 s)))
+  block_told 𝓢 c row x Discarded e n = never (sym (ap of_block e ∙ takes_block (repeats t p2 s)))
 
--- A discard that is not refused, and a fetch.
-discard_heard : (t : law.Talk) (s : Shape) (h : Heard) → Ok h ≡ (discards t s).0 → h ≡ Discarded
-discard_heard t bare h e = cc
-discard_heard t (le n) h e = cc
-discard_heard t (alone d) h e = cc
-discard_heard t (both d n) h e = cc
-
+-- A fetch that is not refused.
 fetch_heard : (t : law.Talk) (b : Bool) (h : Heard) → Ok h ≡ (fetches t b).0 → (h ≡ Gives) × (b ≡ true)
 fetch_heard t true h e = (cc, refl)
 fetch_heard t false h e = (cc, cc)
@@ -154,11 +147,15 @@ module _ (𝓢 : Sealing) {M : Type 0} (𝓐 : Acts M) (c : Core) (k : M) (row :
         ap (λ (o : Option law.Connection). blocks 𝓢 (core_of c) row p2 s o) (sym q.seen)
         ∙ block_in_session 𝓢 (core_of c) row x size was p2 s (ap session_of q.is) h e
 
-    -- Nothing is joined.
-    pub block_said : (p2 : ℕ) (h : Result Heard Status) → h ≡ (heard size was (block p2 s)).0 → (h ≡ Ok Joined → ⊥)
+    -- It is refused, or nothing is joined.
+    pub block_refused : (p2 : ℕ) (w : Status) → Err w ≡ (heard size was (block p2 s)).0
+        → carries 𝓢 𝓐 (state_of c k) (blocks 𝓢 (core_of c) row p2 s (at c row)) ≡ ended c k w
+    block_refused p2 w e = ap carry (block_moves p2 (Err w) e) ∙ unchanged 𝓢 𝓐 c k w
+
+    pub block_said : (p2 : ℕ) (h : Heard) → Ok h ≡ (heard size was (block p2 s)).0 → (h ≡ Joined → ⊥)
         → carries 𝓢 𝓐 (state_of c k) (blocks 𝓢 (core_of c) row p2 s (at c row)) ≡ ended c k (said row h)
     block_said p2 h e n =
-        ap carry (block_moves p2 h e ∙ block_told size was p2 s 𝓢 (core_of c) row x h e n) ∙ unchanged 𝓢 𝓐 c k (said row h)
+        ap carry (block_moves p2 (Ok h) e ∙ block_told size was p2 s 𝓢 (core_of c) row x h e n) ∙ unchanged 𝓢 𝓐 c k (said row h)
 
     discard_moves : (h : Result Heard Status) → h ≡ (heard size was (discard s)).0 → law_step.discards (core_of c) row s (at c row) ≡ moved 𝓢 (core_of c) row x size was 0 s h
     discard_moves h e =
@@ -194,30 +191,6 @@ module _ (𝓢 : Sealing) {M : Type 0} (𝓐 : Acts M) (c : Core) (k : M) (row :
         where
           by : ℕ → ℕ → law.Talk → Done M
           by r n u = carries 𝓢 𝓐 (state_of c k) (completes 𝓢 (core_of c) r x n (last_of u) (before u) (eqb p2 0))
-
-      -- A discard is heard: the session is idle.
-      pub idle_now : (h : Heard) → Ok h ≡ (heard size was (discard s)).0 → session_of (Some y) ≡ law.started size (heard size was (discard s)).1 → talk_of y.talk ≡ law.idle
-      idle_now h e a =
-          ap talk_in a ∙ discard_ends size was 0 s (Ok h) e ∙ ap (λ (g : Heard). talk_after was 0 s (Ok g)) (discard_heard was s h e)
-
-      pub discard_done : (h : Heard) (d : Core) → Ok h ≡ (heard size was (discard s)).0 → session_of (Some y) ≡ law.started size (heard size was (discard s)).1
-          → core_of d ≡ put (core_of c) (talks (core_of c) st.row x y.container (talk_of y.talk)) (core_of c).pending → Keeps c.tables d.tables
-          → carries 𝓢 𝓐 (state_of c k) (law_step.discards (core_of c) row s (at c row)) ≡ ended d k sw.Done
-      discard_done h d e a w kept =
-          carried 𝓢 𝓐 (law_step.discards (core_of c) row s (at c row)) c d k sw.Done
-          (record {
-            move =
-                discard_moves (Ok h) e
-                ∙ ap (λ (g : Heard). moved 𝓢 (core_of c) row x size was 0 s (Ok g)) (discard_heard was s h e)
-                ∙ ap (λ (r : ℕ). by r size law.idle) (sym q.row_is)
-                ∙ ap (λ (n : ℕ). by st.row n law.idle) (sym (ap size_in a))
-                ∙ ap (by st.row y.container) (sym (idle_now h e a))
-                ∙ ap (λ (v : law_step.Core). says v sw.Done) (sym w);
-            answers = kept;
-          })
-        where
-          by : ℕ → ℕ → law.Talk → Move
-          by r n u = says (put (core_of c) (talks (core_of c) r x n u) (core_of c).pending) sw.Done
 
       -- A fetch is heard: a block of the answer is given.
       pub fetch_given : (n : ℕ) (h : Heard) (t : Told) → Ok h ≡ (heard size was fetch).0 → session_of (Some y) ≡ law.started size (heard size was fetch).1

@@ -1,5 +1,5 @@
 -- The card as the rules speak of it, by its core and what its application contains.
-use Rattle.std.specs.Prelude.{◌≡◌, ℕ, ◌+◌, ◌*◌, true, false, [], Some, None, Ok, Err, Option, Result, slice_index_or}
+use Rattle.std.specs.Prelude.{◌≡◌, ℕ, ◌+◌, ◌*◌, true, false, [], Some, None, Option, slice_index_or}
 use Rattle.apdu.specs.StatusWords.{status_bytes}
 use Rattle.apdu.specs.declared.status.Status.{Status}
 use Rattle.apdu.specs.declared.status.Status.TheVariants as sw
@@ -47,9 +47,8 @@ last_of (answered b) = b
 
 -- The status word to what a session made of an event. A joined block is taken, and so is a fetch, of which the block itself
 -- tells whether more follow.
-abbrev pub said : ℕ → Result Heard Status → Status
-said row (Err s) = s
-said row (Ok (Repeated b)) = sw.Taken (row * 2 + flag b)
-said row (Ok Joined) = sw.Taken (row * 2 + flag false)
-said row (Ok Gives) = sw.Taken (row * 2 + flag true)
-said row (Ok Discarded) = sw.Done
+abbrev pub said : ℕ → Heard → Status
+said row (Repeated b) = sw.Taken (row * 2 + flag b)
+said row Joined = sw.Taken (row * 2 + flag false)
+said row Gives = sw.Taken (row * 2 + flag true)
+said row Discarded = sw.Done

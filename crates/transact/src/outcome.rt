@@ -26,15 +26,14 @@ pub fn taken(row: Row, higher: bool) -> Status
 }
 
 // What is said of an event that changes nothing but the session.
-pub fn said(row: Row, heard: Result<Heard, Status>) -> Status
+pub fn said(row: Row, heard: Heard) -> Status
     ensures { result ≡ said row heard }
 {
     match heard {
-        Err(status) => status,
-        Ok(Heard::Repeated(completed)) => taken(row, completed),
-        Ok(Heard::Joined) => taken(row, false),
-        Ok(Heard::Gives) => taken(row, true),
-        Ok(Heard::Discarded) => Status::Done,
+        Heard::Repeated(completed) => taken(row, completed),
+        Heard::Joined => taken(row, false),
+        Heard::Gives => taken(row, true),
+        Heard::Discarded => Status::Done,
     }
 }
 

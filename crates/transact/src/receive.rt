@@ -38,9 +38,12 @@ impl<S: Sealer, A: Application> Parts<S, A> {
         let Some(mut started) = Started::at(&self.core, row) else {
             return Status::NotNow;
         };
-        let heard = started.session.handle(Event::Block(p2, body));
+        let heard = match started.session.handle(Event::Block(p2, body)) {
+            Ok(heard) => heard,
+            Err(status) => return status,
+        };
         match heard {
-            Ok(Heard::Joined) => self.join(&started, p2),
+            Heard::Joined => self.join(&started, p2),
             _ => said(row, heard),
         }
     }

@@ -13,7 +13,7 @@ pub returns-in_default : goal.returns-in_default
 returns-in_default c =
     let d = c.args.self.now in
     still (joins keyed (core_of d) c.args.random.now (kind_of c.args.kind) c.args.gathered.now (shape_of c.args.body)) d WrongLength
-    (no_data keyed (core_of d) c.args.random.now (kind_of c.args.kind) c.args.gathered.now (shape_of c.args.body) c.in_default.ensures.value)
+    (no_data keyed (core_of d) c.args.random.now (kind_of c.args.kind) c.args.gathered.now (shape_of c.args.body) c.in_default.ensures)
 
 pub returns : goal.returns
 returns c =
@@ -21,5 +21,5 @@ returns c =
     let z = take c.join-len.result c.join-len.new.buffer in
     said_same (joins keyed (core_of d) c.args.random.now (kind_of c.args.kind) c.args.gathered.now (shape_of c.args.body))
     (joined keyed (core_of d) c.args.random.now (kind_of c.args.kind) z (object z)) d c.judge.new.self c.judge.result
-    (with_data keyed (core_of d) c.args.random.now (kind_of c.args.kind) c.args.gathered.now (shape_of c.args.body) c.in-Some.part.now z c.in-Some.ensures.value c.join-len.ensures.bytes)
+    (with_data keyed (core_of d) c.args.random.now (kind_of c.args.kind) c.args.gathered.now (shape_of c.args.body) c.in-Some.part.bytes.now z c.in-Some.ensures c.join-len.ensures.bytes)
     c.judge.ensures

@@ -7,7 +7,7 @@ use Rattle.law.specs.Hashes.{keyed}
 use Rattle.law.specs.Request.{same_kind}
 use Rattle.law.specs.Step.{joins, continues_as}
 use Rattle.manage.specs.View.{core_of}
-use Rattle.manage.proofs.Kinds.{same_kinds}
+use Rattle.manage.proofs.SameKinds.{same_kinds}
 use Rattle.manage.proofs.Said.{still, said_same}
 use Rattle.manage.proofs.card_core.Core.join_as.Goals as goal
 
