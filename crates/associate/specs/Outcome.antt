@@ -2,7 +2,7 @@
 use Rattle.std.specs.Prelude.{ℕ, List, [], Ok, Err, Result}
 use Rattle.apdu.specs.declared.status.Status.{Status}
 use Rattle.apdu.specs.declared.status.Status.TheVariants.{NotAuthentic, LimitPassed}
-use Rattle.buffer.specs.declared.Buffer.{Buffer}
+use Rattle.buffer.specs.declared.Store.{Store}
 use Rattle.buffer.specs.Held.{held}
 use Rattle.objects.specs.Asked.{Asked}
 use Rattle.replies.specs.declared.reply.Reply.{Reply}
@@ -44,7 +44,7 @@ ended (Ok _) = Ok []
 ended (Err s) = Err s
 
 -- The bytes that a reply's buffer holds.
-abbrev pub sent : Result Buffer Status → Result (List ℕ) Status
+abbrev pub sent : Result (Store 288) Status → Result (List ℕ) Status
 sent (Ok b) = Ok (held b)
 sent (Err s) = Err s
 

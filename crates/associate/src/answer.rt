@@ -1,12 +1,12 @@
 // A command's reply as the bytes of its object.
-ghost use Rattle.std.specs.Prelude.{◌≡◌, ◌≤◌, length};
+ghost use Rattle.std.specs.Prelude.{◌≡◌};
 ghost use Rattle.buffer.specs.Held.{held};
 ghost use Rattle.replies.specs.Reply.{reply_object};
 ghost use Rattle.associate.specs.Outcome.{replied, ended, sent};
 
 use apdu::Status;
 use buffer::Buffer;
-use replies::reply::{LONGEST, Reply};
+use replies::reply::Reply;
 
 // The object of a reply, or the status word in place of it.
 pub fn with_object(reply: Result<Reply, Status>) -> Result<Buffer, Status>
@@ -32,14 +32,5 @@ pub fn without_object(end: Result<(), Status>) -> Result<Buffer, Status>
 pub fn object(reply: &Reply) -> Buffer
     ensures { held result ≡ reply_object reply.now }
 {
-    let mut bytes = blank();
-    let len = reply.write(&mut bytes);
-    Buffer::from_slice(&bytes[..len])
-}
-
-// Room for any reply's object.
-fn blank() -> [u8; LONGEST]
-    ensures { length result ≡ 62 }
-{
-    [0; LONGEST]
+    Buffer::from_slice(reply.object().as_slice())
 }

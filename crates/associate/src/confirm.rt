@@ -28,7 +28,8 @@ pub fn confirmed_connection(
     ensures unstarted { result.0.session ≡ None }
     ensures reply { reply_object result.1 ≡ suite_reply keyed random.now request.now.master.now request.now.nonce.now request.now.ciphers request.now.mechanisms (at_of master_of master.now) (Some suite) }
 {
-    let connection = new_connection(master, suite, random, request.nonce, area);
+    let terminal_nonce = request.nonce;
+    let connection = new_connection(master, suite, random, terminal_nonce, area);
     let reply = confirm(&connection, request, random);
     (connection, reply)
 }
@@ -58,10 +59,16 @@ fn connection_mac(
     requires { length random.now ≡ 32 }
     ensures { result ≡ mac_of keyed key.now (said request.now random.now suite) }
 {
+    let ConnectionRequest {
+        master,
+        nonce,
+        ciphers,
+        mechanisms,
+    } = *request;
     let mut code = Hmac::new(key);
-    code.update(request.master);
-    code.update(request.nonce);
-    code.update(&[request.ciphers, request.mechanisms]);
+    code.update(master);
+    code.update(nonce);
+    code.update(&[ciphers, mechanisms]);
     code.update(&random[0..16]);
     code.update(&random[16..32]);
     code.update(&[suite.cipher.byte(), suite.mechanism.byte()]);

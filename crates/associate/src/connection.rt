@@ -26,7 +26,8 @@ pub fn establish_connection(
     ensures steps { connection_steps keyed (tables_of tables.old) random.now request.now.master.now request.now.nonce.now request.now.ciphers request.now.mechanisms ≡ done (tables_of tables.new) (replied result) }
     ensures answers { Kept tables.old tables.new }
 {
-    let Some(master) = tables.master_named(request.master) else {
+    let id = request.master;
+    let Some(master) = tables.master_named(id) else {
         return Err(Status::NoSuchIdentifier);
     };
     let Some(suite) = common(request.ciphers, request.mechanisms) else {

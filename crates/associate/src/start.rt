@@ -23,22 +23,20 @@ pub fn start(
     ensures steps { start_steps keyed (tables_of tables.old) request.now.connection.now request.now.container request.now.mac.now ≡ done (tables_of tables.new) (replied result) }
     ensures answers { Kept tables.old tables.new }
 {
-    let Some(connection) = tables.connection_named(request.connection) else {
+    let StartRequest {
+        connection: id,
+        container,
+        mac,
+    } = *request;
+    let Some(connection) = tables.connection_named(id) else {
         return Err(Status::NoSuchIdentifier);
     };
     let Some(()) = fresh(&connection.item) else {
         return Err(Status::NotNow);
     };
-    let Some(()) = start_mac(
-        &connection.item.mac,
-        request.connection,
-        request.container,
-        request.mac,
-        area,
-    ) else {
+    let Some(()) = start_mac(&connection.item.mac, id, container, mac, area) else {
         return Err(Status::NotAuthentic);
     };
-    let container = request.container;
     tables.start(
         connection,
         Session {

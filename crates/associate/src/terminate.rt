@@ -20,9 +20,10 @@ pub fn terminate(
     ensures steps { end_steps keyed (tables_of tables.old) request.now.named request.now.mac.now ≡ done (tables_of tables.new) (ended result) }
     ensures answers { Kept tables.old tables.new }
 {
-    match request.named {
-        Named::Master(id) => end_master(tables, id, request.mac, area),
-        Named::Connection(id) => end_connection(tables, id, request.mac, area),
+    let EndRequest { named, mac } = *request;
+    match named {
+        Named::Master(id) => end_master(tables, id, mac, area),
+        Named::Connection(id) => end_connection(tables, id, mac, area),
     }
 }
 

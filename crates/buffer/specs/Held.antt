@@ -1,7 +1,7 @@
--- What a buffer holds.
+-- What a store holds.
 use Rattle.std.specs.Prelude.{ℕ, List, take}
-use Rattle.buffer.specs.declared.Buffer.{Buffer}
+use Rattle.buffer.specs.declared.Store.{Store}
 
 -- The bytes in use; those behind them are free.
-abbrev pub held : Buffer → List ℕ
+abbrev pub held : {n : ℕ} → Store n → List ℕ
 held b = take b.len b.bytes

@@ -2,7 +2,7 @@
 use Rattle.std.proofs.Common.{◌≡◌, ℕ, ◌+◌, ◌^◌, ◌<◌, ◌≤◌, Bool, true, false, cond, List, ◌++◌, length, take, drop, sym, refl, ap, ◌∙◌, arith}
 use Rattle.std.proofs.lemmas.List.{length-take, length-drop}
 use Rattle.buffer.specs.Held.{held}
-use Rattle.buffer.specs.declared.Buffer.{Buffer}
+use Rattle.buffer.specs.declared.Store.{Store}
 use Rattle.apdu.specs.Reply.{reply}
 use Rattle.apdu.specs.StatusWords.{status_bytes}
 use Rattle.apdu.specs.declared.status.Status.{Status}
@@ -20,14 +20,14 @@ use Rattle.manage.specs.View.{core_of, Replied}
 use Rattle.manage.proofs.Stays.{stays}
 
 -- A core with something else pending.
-abbrev pub with_reply : Core → Kind → Buffer → ℕ → Core
+abbrev pub with_reply : Core → Kind → Store 288 → ℕ → Core
 with_reply c k z n = record { tables = c.tables; pending = pending.Reply (record { kind = k; reply = z; given = n }); failures = c.failures; required = c.required }
 
 ends : (b : Bool) → cond b (status_bytes MoreToFetch) (status_bytes Done) ≡ status_bytes (cond b MoreToFetch Done)
 ends true = refl
 ends false = refl
 
-pub gives : (c : Core) (k : Kind) (z : Buffer) (at most : ℕ) (p : Part) (s : Status) (t : Told)
+pub gives : (c : Core) (k : Kind) (z : Store 288) (at most : ℕ) (p : Part) (s : Status) (t : Told)
     → p ≡ block_of (held z) at most → s ≡ cond p.more MoreToFetch Done → bytes_of t ≡ reply p.bytes s
     → Replied (given (core_of c) (kind_of k) (held z) at most) c (with_reply c k z (at + length p.bytes)) t
 gives c k z at most p s t e h w = record {

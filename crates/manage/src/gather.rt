@@ -12,12 +12,11 @@ ghost use Rattle.tables.specs.View.{tables_of};
 ghost use Rattle.manage.specs.View.{core_of, pending_of, with_pending, refused_core, granted, Said};
 
 use crate::card_core::Core;
-use crate::join::join;
 use crate::pending::{Gathered, Pending, Waiting};
 use apdu::{Body, Kind, Status};
 use associate::carry_out;
-use buffer::{Buffer, ROOM};
-use objects::join::Joined;
+use buffer::{Buffer, ROOM, Store};
+use objects::join::{Unread, read_object};
 
 // The most bytes of blocks that are joined: what a buffer holds, and one block more.
 const JOINED: usize = ROOM + 255;
@@ -71,16 +70,16 @@ impl Core {
         requires area { 64 ≤ length area.old }
         ensures { Said (joined keyed (core_of self.old) random.now (kind_of kind) bytes.now (object bytes.now)) self.old self.new result }
     {
-        match Joined::read(bytes) {
-            Joined::Bad => self.refuse(Status::WrongData),
-            Joined::Incomplete => {
+        match read_object(bytes) {
+            Err(Unread::Bad) => self.refuse(Status::WrongData),
+            Err(Unread::Incomplete) => {
                 self.pending = Pending::Object(Gathered {
                     kind,
                     bytes: Buffer::from_slice(bytes),
                 });
                 Status::MoreToSend
             }
-            Joined::Value(value) => self.carry_out(kind, value, random, area),
+            Ok(value) => self.carry_out(kind, value, random, area),
         }
     }
     // A command block: data alone joins what was gathered, and drops whatever else was pending.
@@ -99,9 +98,9 @@ impl Core {
         let Some(part) = body.data_alone() else {
             return Status::WrongLength;
         };
-        let mut joined = [0; JOINED];
-        let len = join(&mut joined, gathered, part.bytes);
-        self.judge(kind, &joined[..len], random, area)
+        let mut joined: Store<JOINED> = Store::from_slice(gathered);
+        joined.append(part.bytes).unwrap();
+        self.judge(kind, joined.as_slice(), random, area)
     }
 
     // P2 80: a first command block.

@@ -4,7 +4,6 @@
 mod card_core;
 mod gather;
 mod give;
-mod join;
 mod pending;
 mod tell;
 mod told;

@@ -5,7 +5,7 @@ ghost use Rattle.manage.specs.Told.{bytes_of};
 
 use crate::told::Told;
 use apdu::{Status, put_reply};
-use buffer::Buffer;
+use buffer::Store;
 
 // A status word alone.
 impl From<Status> for Told {
@@ -13,7 +13,7 @@ impl From<Status> for Told {
 
     fn from(status: Status) -> Told {
         Told {
-            block: Buffer::new(),
+            block: Store::new(),
             status,
         }
     }
@@ -26,7 +26,7 @@ impl Told {
         ensures { bytes_of result ≡ reply bytes.now status }
     {
         Told {
-            block: Buffer::from_slice(bytes),
+            block: Store::from_slice(bytes),
             status,
         }
     }

@@ -1,37 +1,43 @@
 -- The beginnings of a complete object, and what is longer than it.
-use Rattle.std.proofs.Common.{◌≡◌, ℕ, ◌+◌, ◌<◌, List, ◌++◌, length, take, drop, sym, refl, ap, ◌∙◌, arith}
+use Rattle.std.proofs.Common.{◌≡◌, ℕ, ◌+◌, ◌<◌, List, ◌++◌, length, take, drop, Ok, Err, Result, sym, refl, ap, ◌∙◌, arith}
 use Rattle.std.proofs.lemmas.List.{length-append, length-take-le, take-append-drop}
 use Rattle.std.proofs.lemmas.Bool.Decides.{nat_tests}
 use Rattle.byte_lists.specs.Bytes.{Bytes}
 use Rattle.objects.specs.declared.join.Header.{Header}
-use Rattle.objects.specs.declared.join.Header.TheVariants as header
-use Rattle.objects.specs.Joined.{incomplete, bad, value, header_of, filled, under, object}
+use Rattle.objects.specs.declared.join.Unread.{Unread}
+use Rattle.objects.specs.declared.join.Unread.TheVariants.{Incomplete, Bad}
+use Rattle.objects.specs.Joined.{incomplete, bad, value, header, header_of, filled, under, object}
 use Rattle.objects.specs.Laws.{PrefixFree}
 use Rattle.objects.proofs.Firm.{header_stays_bad, header_stays}
 
 -- A complete object has a header, and as many bytes as that says.
-pub record Sized (hd : Header) (bs : List ℕ) : Type 0 where
+pub record Sized (hd : Result Header Unread) (bs : List ℕ) : Type 0 where
   pub head : ℕ
   pub size : ℕ
-  pub is : hd ≡ header.Complete head size
+  pub is : hd ≡ header head size
   pub long : length bs ≡ head + size
 
-sized : (hd : Header) (bs v : List ℕ) → under hd bs ≡ value v → Sized hd bs
-sized header.Incomplete bs v e = let z : ◌≡◌ {A = ℕ} 0 1 = cc in absurd (omega arith)
-sized header.Bad bs v e = let z : ◌≡◌ {A = ℕ} 0 1 = cc in absurd (omega arith)
-sized (header.Complete h s) bs v e = record { head = h; size = s; is = refl; long = grind (arith, nat_tests) }
+sized : (hd : Result Header Unread) (bs v : List ℕ) → under hd bs ≡ value v → Sized hd bs
+sized (Err Incomplete) bs v e = let z : ◌≡◌ {A = ℕ} 0 1 = cc in absurd (omega arith)
+sized (Err Bad) bs v e = let z : ◌≡◌ {A = ℕ} 0 1 = cc in absurd (omega arith)
+sized (Ok d) bs v e = record { head = d.head; size = d.size; is = refl; long = grind (arith, nat_tests) }
 
 -- Short of that many bytes, with a header that is not bad and no other, an object is incomplete.
-short : (hd : Header) (bs : List ℕ) (h s : ℕ) → (hd ≡ header.Bad → ⊥) → ((a b : ℕ) → hd ≡ header.Complete a b → a + b ≡ h + s) → length bs < h + s → under hd bs ≡ incomplete
-short header.Incomplete bs h s good same l = refl
-short header.Bad bs h s good same l = absurd (good refl)
-short (header.Complete a b) bs h s good same l = let e : a + b ≡ h + s = same a b refl in grind (arith, nat_tests)
+short : (hd : Result Header Unread) (bs : List ℕ) (h s : ℕ) → (hd ≡ Err Bad → ⊥) → ((a b : ℕ) → hd ≡ header a b → a + b ≡ h + s) → length bs < h + s → under hd bs ≡ incomplete
+short (Err Incomplete) bs h s good same l = refl
+short (Err Bad) bs h s good same l = absurd (good refl)
+short (Ok d) bs h s good same l = let e : d.head + d.size ≡ h + s = same d.head d.size refl in grind (arith, nat_tests)
 
-apart : (hd : Header) (h s : ℕ) → hd ≡ header.Bad → hd ≡ header.Complete h s → ⊥
+apart : (hd : Result Header Unread) (h s : ℕ) → hd ≡ Err Bad → hd ≡ header h s → ⊥
 apart hd h s p q = let z : ◌≡◌ {A = ℕ} 0 1 = cc in omega arith
 
-alike : (hd : Header) (a b h s : ℕ) → hd ≡ header.Complete a b → hd ≡ header.Complete h s → a + b ≡ h + s
-alike hd a b h s p q = cc
+-- How many bytes a header says that its object has.
+abbrev says : Result Header Unread → ℕ
+says (Err e) = 0
+says (Ok d) = d.head + d.size
+
+alike : (hd : Result Header Unread) (a b h s : ℕ) → hd ≡ header a b → hd ≡ header h s → a + b ≡ h + s
+alike hd a b h s p q = ap says (sym p ∙ q)
 
 beginning : (bs v : List ℕ) → object bs ≡ value v → (n : ℕ) → n < length bs → object (take n bs) ≡ incomplete
 beginning bs v e n l =
@@ -52,21 +58,21 @@ longer bs v more e l =
     ap (λ hd. under hd (bs ++ more)) (header_stays bs more z.head z.size z.is)
     ∙ overlong z.head z.size (bs ++ more) (omega (arith, length-append bs more, z.long))
 
-mended : (hd : Header) (bs more : List ℕ) → header_of bs ≡ hd → under hd bs ≡ bad → object (bs ++ more) ≡ bad
-mended header.Incomplete bs more g e = let z : ◌≡◌ {A = ℕ} 0 1 = cc in absurd (omega arith)
-mended header.Bad bs more g e = ap (λ hd. under hd (bs ++ more)) (header_stays_bad bs more g)
-mended (header.Complete h s) bs more g e =
-    let l : h + s < length bs = grind (arith, nat_tests) in
-    ap (λ hd. under hd (bs ++ more)) (header_stays bs more h s g) ∙ overlong h s (bs ++ more) (omega (arith, length-append bs more))
+mended : (hd : Result Header Unread) (bs more : List ℕ) → header_of bs ≡ hd → under hd bs ≡ bad → object (bs ++ more) ≡ bad
+mended (Err Incomplete) bs more g e = let z : ◌≡◌ {A = ℕ} 0 1 = cc in absurd (omega arith)
+mended (Err Bad) bs more g e = ap (λ hd. under hd (bs ++ more)) (header_stays_bad bs more g)
+mended (Ok d) bs more g e =
+    let l : d.head + d.size < length bs = grind (arith, nat_tests) in
+    ap (λ hd. under hd (bs ++ more)) (header_stays bs more d.head d.size g) ∙ overlong d.head d.size (bs ++ more) (omega (arith, length-append bs more))
 
 -- A header of three bytes or more is judged, and its value has a byte's length at most.
-judged : (hd : Header) (bs : List ℕ) → header_of bs ≡ hd → Bytes bs → 258 < length bs → under hd bs ≡ bad
-judged header.Incomplete bs g b l = grind (arith, nat_tests)
-judged header.Bad bs g b l = refl
-judged (header.Complete h s) bs g b l =
+judged : (hd : Result Header Unread) (bs : List ℕ) → header_of bs ≡ hd → Bytes bs → 258 < length bs → under hd bs ≡ bad
+judged (Err Incomplete) bs g b l = grind (arith, nat_tests)
+judged (Err Bad) bs g b l = refl
+judged (Ok d) bs g b l =
     let one = b 1 in
     let two = b 2 in
-    overlong h s bs (grind (arith, nat_tests))
+    overlong d.head d.size bs (grind (arith, nat_tests))
 
 pub prefix_free : PrefixFree
 prefix_free = record {

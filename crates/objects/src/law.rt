@@ -3,15 +3,11 @@ ghost use Rattle.objects.specs.Examples.{Worked};
 ghost use Rattle.objects.specs.Laws.{PrefixFree};
 
 /// Of a complete object every proper beginning is incomplete, and nothing longer is complete.
-pub fn objects_are_prefix_free() -> u8
+pub fn objects_are_prefix_free()
     ensures { PrefixFree }
-{
-    0
-}
+{}
 
 /// The worked examples of objects and requests are as they are written down.
-pub fn examples_stand() -> u8
+pub fn examples_stand()
     ensures { Worked }
-{
-    0
-}
+{}

@@ -1,6 +1,6 @@
 //! The requests inside an object, each with its values by name.
 ghost use Rattle.std.specs.Prelude.{◌≡◌, ◌≤◌, length, IfSome};
-ghost use Rattle.objects.specs.Asked.{asked_master, asked_connection, asked_start, asked_end, seen_master, seen_connection, seen_start, seen_end, identifier};
+ghost use Rattle.objects.specs.Asked.{asked_master, asked_connection, asked_start, asked_end, seen_master, seen_connection, seen_start, seen_end};
 
 use crate::read::{Field, Reader};
 use crate::tag;
@@ -24,8 +24,8 @@ pub struct MasterRequest<'a> {
 /// Asks for a connection under this master.
 #[derive(Clone, Copy)]
 pub struct ConnectionRequest<'a> {
-    pub master: &'a [u8],
-    pub nonce: &'a [u8],
+    pub master: &'a [u8; 16],
+    pub nonce: &'a [u8; 16],
     pub ciphers: u8,
     pub mechanisms: u8,
 }
@@ -33,23 +33,23 @@ pub struct ConnectionRequest<'a> {
 /// Asks to start the session of this connection, with blocks of up to `container` bytes.
 #[derive(Clone, Copy)]
 pub struct StartRequest<'a> {
-    pub connection: &'a [u8],
+    pub connection: &'a [u8; 16],
     pub container: u8,
-    pub mac: &'a [u8],
+    pub mac: &'a [u8; 16],
 }
 
 /// What a request names, by its identifier.
 #[derive(Clone, Copy)]
 pub enum Named<'a> {
-    Master(&'a [u8]),
-    Connection(&'a [u8]),
+    Master(&'a [u8; 16]),
+    Connection(&'a [u8; 16]),
 }
 
 /// Asks to terminate a master or a connection.
 #[derive(Clone, Copy)]
 pub struct EndRequest<'a> {
     pub named: Named<'a>,
-    pub mac: &'a [u8],
+    pub mac: &'a [u8; 16],
 }
 
 impl<'a> MasterRequest<'a> {
@@ -60,7 +60,7 @@ impl<'a> MasterRequest<'a> {
     {
         let mut reader = Reader::new(value);
         let reference = reader.take(REFERENCE)?;
-        let mechanisms = reader.take_byte(tag::KEY_MECHANISMS)?;
+        let &[mechanisms] = reader.take_array::<1>(tag::KEY_MECHANISMS)?;
         reader.end()?;
         Some(MasterRequest {
             reference,
@@ -73,13 +73,12 @@ impl<'a> ConnectionRequest<'a> {
     /// Reads the objects of this request.
     pub fn read(value: &'a [u8]) -> Option<ConnectionRequest<'a>>
         ensures asks { seen_connection result ≡ asked_connection value.now }
-        ensures sizes { IfSome result (λ q. (length q.master.now ≡ 16) × (length q.nonce.now ≡ 16)) }
     {
         let mut reader = Reader::new(value);
-        let master = reader.take_sixteen(tag::MASTER)?;
-        let nonce = reader.take_sixteen(tag::TERMINAL_NONCE)?;
-        let ciphers = reader.take_byte(tag::TERMINAL_CIPHERS)?;
-        let mechanisms = reader.take_byte(tag::TERMINAL_MECHANISMS)?;
+        let master = reader.take_array(tag::MASTER)?;
+        let nonce = reader.take_array(tag::TERMINAL_NONCE)?;
+        let &[ciphers] = reader.take_array::<1>(tag::TERMINAL_CIPHERS)?;
+        let &[mechanisms] = reader.take_array::<1>(tag::TERMINAL_MECHANISMS)?;
         reader.end()?;
         Some(ConnectionRequest {
             master,
@@ -94,12 +93,12 @@ impl<'a> StartRequest<'a> {
     /// Reads the objects of this request.
     pub fn read(value: &'a [u8]) -> Option<StartRequest<'a>>
         ensures asks { seen_start result ≡ asked_start value.now }
-        ensures sizes { IfSome result (λ q. (length q.connection.now ≡ 16) × (10 ≤ q.container) × (length q.mac.now ≡ 16)) }
+        ensures sizes { IfSome result (λ q. 10 ≤ q.container) }
     {
         let mut reader = Reader::new(value);
-        let connection = reader.take_sixteen(tag::CONNECTION)?;
-        let container = reader.take_byte(tag::CONTAINER)?;
-        let mac = reader.take_sixteen(tag::START_MAC)?;
+        let connection = reader.take_array(tag::CONNECTION)?;
+        let &[container] = reader.take_array::<1>(tag::CONTAINER)?;
+        let mac = reader.take_array(tag::START_MAC)?;
         reader.end()?;
         if container < LEAST_CONTAINER {
             return None;
@@ -116,14 +115,13 @@ impl<'a> EndRequest<'a> {
     /// Reads the objects of this request.
     pub fn read(value: &'a [u8]) -> Option<EndRequest<'a>>
         ensures asks { seen_end result ≡ asked_end value.now }
-        ensures sizes { IfSome result (λ q. (length (identifier q.named) ≡ 16) × (length q.mac.now ≡ 16)) }
     {
         let mut reader = Reader::new(value);
-        let named = match reader.take_sixteen(tag::MASTER) {
+        let named = match reader.take_array(tag::MASTER) {
             Some(id) => Named::Master(id),
-            None => Named::Connection(reader.take_sixteen(tag::CONNECTION)?),
+            None => Named::Connection(reader.take_array(tag::CONNECTION)?),
         };
-        let mac = reader.take_sixteen(tag::END_MAC)?;
+        let mac = reader.take_array(tag::END_MAC)?;
         reader.end()?;
         Some(EndRequest { named, mac })
     }

@@ -1,3 +1,2 @@
-pub mod Front
 pub mod Joined
 pub mod Cut

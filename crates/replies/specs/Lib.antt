@@ -1,5 +1,4 @@
 pub mod Reply
-pub mod Written
 pub mod Blocks
 pub mod Joining
 pub mod Back

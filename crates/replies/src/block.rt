@@ -1,5 +1,5 @@
 //! Blocks: a reply goes out in parts as long as the terminal asks for, an answer in parts of the container's size.
-ghost use Rattle.std.specs.Prelude.{◌≡◌, ◌<◌, take, drop};
+ghost use Rattle.std.specs.Prelude.{◌≡◌, ◌<◌};
 ghost use Rattle.std.specs.Option.{option_map};
 ghost use Rattle.replies.specs.Blocks.{seen, front_of, block_of, cut_block, cut_count};
 
@@ -15,7 +15,7 @@ pub struct Block<'a> {
 pub fn reply_block(whole: &[u8], place: usize, most: usize) -> Block<'_>
     ensures { seen result ≡ block_of whole.now place most }
 {
-    front(from_place(whole, place), most)
+    front(whole.get(place..).unwrap_or(&[]), most)
 }
 
 /// The answer block of this number, counted from 0, where the answer is cut at `size` bytes.
@@ -43,29 +43,7 @@ fn front(rest: &[u8], most: usize) -> Block<'_>
 {
     let more = most < rest.len();
     Block {
-        bytes: up_to(rest, most),
+        bytes: &rest[..most.min(rest.len())],
         more,
-    }
-}
-
-// The first `most` bytes, or all where there are fewer.
-fn up_to(rest: &[u8], most: usize) -> &[u8]
-    ensures { result.now ≡ take most rest.now }
-{
-    if most < rest.len() {
-        &rest[..most]
-    } else {
-        rest
-    }
-}
-
-// The bytes from a place on, if there are any.
-fn from_place(whole: &[u8], place: usize) -> &[u8]
-    ensures { result.now ≡ drop place whole.now }
-{
-    if place < whole.len() {
-        &whole[place..]
-    } else {
-        &[]
     }
 }

@@ -4,22 +4,16 @@ ghost use Rattle.replies.specs.Examples.{Worked};
 ghost use Rattle.replies.specs.Joining.{Joins};
 
 /// The blocks of a reply and those of an answer, joined, are the whole.
-pub fn blocks_join() -> u8
+pub fn blocks_join()
     ensures { Joins }
-{
-    0
-}
+{}
 
 /// A reply is a complete object to whoever reads it.
-pub fn replies_read_back() -> u8
+pub fn replies_read_back()
     ensures { ReadsBack }
-{
-    0
-}
+{}
 
 /// The worked examples of replies and blocks are as they are written down.
-pub fn examples_stand() -> u8
+pub fn examples_stand()
     ensures { Worked }
-{
-    0
-}
+{}

@@ -1,14 +1,18 @@
 //! The card's replies, each with its values by name, and the object that it is.
-ghost use Rattle.std.specs.Prelude.{◌≡◌, ◌≤◌, ◌++◌, length, drop};
+ghost use Rattle.std.specs.Prelude.{◌≡◌};
+ghost use Rattle.buffer.specs.Held.{held};
 ghost use Rattle.replies.specs.Reply.{discovery_objects, master_objects, connection_objects, inside, reply_object};
-ghost use Rattle.replies.specs.Written.{written};
 
 use crate::tag;
-use crate::write::{Writer, put};
+use crate::write::push;
+use buffer::Store;
 use objects::tag::{CONNECTION, MASTER, OBJECT};
 
 /// The most bytes that a reply's object has.
 pub const LONGEST: usize = 62;
+
+// The most bytes that it has inside.
+const INSIDE: usize = 60;
 
 /// What the card says of itself to whoever asks.
 #[derive(Clone, Copy)]
@@ -44,69 +48,62 @@ pub enum Reply {
 }
 
 impl DiscoveryReply {
-    fn objects(&self) -> Writer
-        ensures bytes { written result ≡ discovery_objects self.now }
-        ensures size { result.filled ≡ 9 }
+    fn objects(&self) -> Store<INSIDE>
+        ensures { held result ≡ discovery_objects self.now }
     {
-        let mut objects = Writer::new();
-        objects.push(tag::ENDPOINT, &[0xFF]);
-        objects.push(tag::REQUIRED, &[u8::from(self.required)]);
-        objects.push(tag::FAILURES, &[self.failures]);
+        let mut objects = Store::new();
+        push(&mut objects, tag::ENDPOINT, &[0xFF]);
+        push(&mut objects, tag::REQUIRED, &[u8::from(self.required)]);
+        push(&mut objects, tag::FAILURES, &[self.failures]);
         objects
     }
 }
 
 impl MasterReply {
-    fn objects(&self) -> Writer
-        ensures bytes { written result ≡ master_objects self.now }
-        ensures size { result.filled ≡ 21 }
+    fn objects(&self) -> Store<INSIDE>
+        ensures { held result ≡ master_objects self.now }
     {
-        let mut objects = Writer::new();
-        objects.push(MASTER, &self.id);
-        objects.push(tag::KEY_MECHANISM, &[0x01]);
+        let mut objects = Store::new();
+        push(&mut objects, MASTER, &self.id);
+        push(&mut objects, tag::KEY_MECHANISM, &[0x01]);
         objects
     }
 }
 
 impl ConnectionReply {
-    fn objects(&self) -> Writer
-        ensures bytes { written result ≡ connection_objects self.now }
-        ensures size { result.filled ≡ 60 }
+    fn objects(&self) -> Store<INSIDE>
+        ensures { held result ≡ connection_objects self.now }
     {
-        let mut objects = Writer::new();
-        objects.push(CONNECTION, &self.id);
-        objects.push(tag::CARD_NONCE, &self.nonce);
-        objects.push(tag::CIPHER, &[self.cipher]);
-        objects.push(tag::MECHANISM, &[self.mechanism]);
-        objects.push(tag::CONNECTION_MAC, &self.mac);
+        let mut objects = Store::new();
+        push(&mut objects, CONNECTION, &self.id);
+        push(&mut objects, tag::CARD_NONCE, &self.nonce);
+        push(&mut objects, tag::CIPHER, &[self.cipher]);
+        push(&mut objects, tag::MECHANISM, &[self.mechanism]);
+        push(&mut objects, tag::CONNECTION_MAC, &self.mac);
         objects
     }
 }
 
 impl Reply {
-    /// Writes the reply's object at the start of the buffer, leaves the rest and answers how long the object is.
-    pub fn write(&self, buffer: &mut [u8; LONGEST]) -> usize
-        ensures size { result ≡ length (reply_object self.now) }
-        ensures after { buffer.new ≡ reply_object self.now ++ drop result buffer.old }
+    /// The reply's object.
+    pub fn object(&self) -> Store<LONGEST>
+        ensures { held result ≡ reply_object self.now }
     {
-        let objects = self.objects();
-        let inside = objects.bytes();
-        put(buffer, OBJECT, inside);
-        2 + inside.len()
+        let mut object = Store::new();
+        push(&mut object, OBJECT, self.objects().as_slice());
+        object
     }
 
-    fn objects(&self) -> Writer
-        ensures bytes { written result ≡ inside self.now }
-        ensures size { result.filled ≡ length (inside self.now) }
-        ensures room { result.filled ≤ 60 }
+    fn objects(&self) -> Store<INSIDE>
+        ensures { held result ≡ inside self.now }
     {
         match self {
             Reply::Discovery(reply) => reply.objects(),
             Reply::Master(reply) => reply.objects(),
             Reply::Connection(reply) => reply.objects(),
             Reply::Session(session) => {
-                let mut objects = Writer::new();
-                objects.push(tag::SESSION, &[*session]);
+                let mut objects = Store::new();
+                push(&mut objects, tag::SESSION, &[*session]);
                 objects
             }
         }

@@ -52,7 +52,7 @@ impl Part {
         let Some(data) = contents(container, body) else {
             return Err(Status::WrongLength);
         };
-        if !self.joined.append(data) {
+        if self.joined.append(data).is_err() {
             return Err(Status::WrongLength);
         }
         self.last = Block::of(p2, data);

@@ -3,23 +3,14 @@ ghost use Rattle.std.specs.Prelude.{◌≡◌, ℕ, ◌+◌, ◌≤◌, length, 
 ghost use Rattle.replies.specs.Reply.{reply_object};
 ghost use Rattle.terminal.specs.Heard.{IsMaster, IsConnection, IsSession};
 
-use replies::reply::{ConnectionReply, LONGEST, MasterReply, Reply};
+use replies::reply::{ConnectionReply, MasterReply, Reply};
 use secret::same;
-
-// Room for a reply's object.
-fn blank() -> [u8; LONGEST]
-    ensures { length result ≡ 62 }
-{
-    [0; LONGEST]
-}
 
 // Whether an object is this reply.
 fn is_reply(object: &[u8], reply: Reply) -> bool
     ensures { Decides result (object.now ≡ reply_object reply) }
 {
-    let mut written = blank();
-    let len = reply.write(&mut written);
-    same(object, &written[0..len])
+    same(object, reply.object().as_slice())
 }
 
 // The 16 bytes from a place on.

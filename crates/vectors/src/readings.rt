@@ -1,6 +1,6 @@
 // Reading as vectors: a key's load gives its answer, joined blocks give what they are.
 use crate::run::Outcome;
-use objects::join::Joined;
+use objects::join::{Unread, read_object};
 use personalise::read;
 use std::alloc::Global;
 
@@ -16,13 +16,13 @@ pub fn load(heap: Global, text: &[u8]) -> Outcome {
 // 00 and the value of a whole object; 01 where blocks are to come; 02 where it is bad.
 pub fn object(heap: Global, bytes: &[u8]) -> Outcome {
     let mut out = Vec::new(heap);
-    match Joined::read(bytes) {
-        Joined::Value(value) => {
+    match read_object(bytes) {
+        Ok(value) => {
             out.push(0)?;
             out.extend_from_slice(value)?;
         }
-        Joined::Incomplete => out.push(1)?,
-        Joined::Bad => out.push(2)?,
+        Err(Unread::Incomplete) => out.push(1)?,
+        Err(Unread::Bad) => out.push(2)?,
     }
     Ok(Some(out))
 }
