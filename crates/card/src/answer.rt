@@ -16,8 +16,6 @@ use application::Application;
 use request::{Kind, Request};
 use sealing::Sealer;
 use session::{Event, Heard};
-use table_rows::Row;
-use tables::Connection;
 use transact::{block, discard, give, said};
 
 impl<S: Sealer, A: Application> Powered<S, A> {
@@ -40,12 +38,13 @@ impl<S: Sealer, A: Application> Powered<S, A> {
         self.application.run(apdu, reply)
     }
     // P1 + 1 of TRANSACT DATA: a block of the answer that a session holds.
-    fn fetch(&self, row: Row, number: u8, body: Body<'_>, reply: &mut [u8]) -> usize
+    fn fetch(&self, row: usize, number: u8, body: Body<'_>, reply: &mut [u8]) -> usize
+        requires row { row < 4 }
         requires proper { Proper (shape_of body) }
         requires room { 258 ≤ length reply.old }
         ensures { Answers (carries S.Sealer.seals A.Application.acts (on_state A.Application.contents self.now) (fetches (core_of self.now.core) row number (shape_of body.entry) (slice_index_or (tables_of self.now.core.tables).connections row None))) (on_state A.Application.contents self.now) reply.old reply.new result }
     {
-        let Some(connection) = self.core.tables.at::<Connection>(row) else {
+        let Some(connection) = self.core.tables.connection_at(row) else {
             return self.say(Status::NotNow, reply);
         };
         let Some(mut session) = connection.session else {
@@ -96,7 +95,8 @@ impl<S: Sealer, A: Application> Powered<S, A> {
     }
 
     // P1 + 0 of TRANSACT DATA: a block in the session of a row.
-    fn block(&mut self, row: Row, p2: u8, body: Body<'_>, reply: &mut [u8]) -> usize
+    fn block(&mut self, row: usize, p2: u8, body: Body<'_>, reply: &mut [u8]) -> usize
+        requires row { row < 4 }
         requires room { 258 ≤ length reply.old }
         ensures { Answers (carries S.Sealer.seals A.Application.acts (on_state A.Application.contents self.old) (blocks S.Sealer.seals (core_of self.old.core) row p2 (shape_of body.entry) (slice_index_or (tables_of self.old.core.tables).connections row None))) (on_state A.Application.contents self.new) reply.old reply.new result }
     {
@@ -112,7 +112,8 @@ impl<S: Sealer, A: Application> Powered<S, A> {
     }
 
     // P1 + 2: a discard.
-    fn discard(&mut self, row: Row, body: Body<'_>, reply: &mut [u8]) -> usize
+    fn discard(&mut self, row: usize, body: Body<'_>, reply: &mut [u8]) -> usize
+        requires row { row < 4 }
         requires room { 258 ≤ length reply.old }
         ensures { Answers (carries S.Sealer.seals A.Application.acts (on_state A.Application.contents self.old) (discards (core_of self.old.core) row (shape_of body.entry) (slice_index_or (tables_of self.old.core.tables).connections row None))) (on_state A.Application.contents self.new) reply.old reply.new result }
     {
@@ -142,12 +143,12 @@ impl<S: Sealer, A: Application> Powered<S, A> {
             Request::Answer(kind, body) => self.core.answer(kind, body, reply),
             Request::GoOn(kind, body) => self.core.go_on(kind, body, reply),
             Request::Block(asked) => {
-                self.block(asked.row, asked.p2, asked.body, reply)
+                self.block(usize::from(asked.row), asked.p2, asked.body, reply)
             }
             Request::Fetch(asked) => {
-                self.fetch(asked.row, asked.number, asked.body, reply)
+                self.fetch(usize::from(asked.row), asked.number, asked.body, reply)
             }
-            Request::Discard(asked) => self.discard(asked.row, asked.body, reply),
+            Request::Discard(asked) => self.discard(usize::from(asked.row), asked.body, reply),
         }
     }
 }
