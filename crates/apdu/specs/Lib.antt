@@ -4,3 +4,4 @@ pub mod StatusWords
 pub mod Reply
 pub mod View
 pub mod Kinds
+pub mod Alone

@@ -1,6 +1,7 @@
 // Commands as they come over the line, and the status words that end every reply.
 #![tactic(auto)]
 
+mod alone;
 mod body;
 mod command;
 mod kind;

@@ -3,7 +3,7 @@ use Rattle.std.proofs.Common.{◌≡◌, ℕ, List, Err, Result, sym, ap, ◌∙
 use Rattle.apdu.specs.declared.status.Status.{Status}
 use Rattle.apdu.specs.declared.status.Status.TheVariants.{WrongData}
 use Rattle.objects.specs.Asked.{Asked, layout}
-use Rattle.request.specs.declared.kind.Kind.{Kind}
+use Rattle.apdu.specs.declared.kind.Kind.{Kind}
 use Rattle.request.specs.View.{kind_of}
 use Rattle.law.specs.Request.{asked}
 use Rattle.law.specs.Associations.{Hashing}

@@ -8,7 +8,7 @@ ghost use Rattle.tables.specs.View.{key_of, connection_of, tables_of};
 ghost use Rattle.associate.specs.Checks.{agreed, below, unused, fresh};
 
 use crate::suite::has_bit;
-use tables::{Connection, Key, Tables};
+use tables::{Connection, Key, Master, Tables};
 
 // Passes where the terminal has the one key mechanism of the card, and the key is not weak.
 pub fn agreed(key: &Key, mechanisms: u8) -> Option<()>
@@ -33,7 +33,7 @@ pub fn new_master_id(tables: &Tables, random: &[u8]) -> Option<()>
     requires { length random.now ≡ 32 }
     ensures { result ≡ unused (found (has_msa (id_of random.now)) (tables_of tables.now).masters) }
 {
-    if tables.master_named(&random[0..16]).is_some() {
+    if tables.named::<Master>(&random[0..16]).is_some() {
         return None;
     }
     Some(())
@@ -44,7 +44,7 @@ pub fn new_connection_id(tables: &Tables, random: &[u8]) -> Option<()>
     requires { length random.now ≡ 32 }
     ensures { result ≡ unused (found (has_csa (id_of random.now)) (tables_of tables.now).connections) }
 {
-    if tables.connection_named(&random[0..16]).is_some() {
+    if tables.named::<Connection>(&random[0..16]).is_some() {
         return None;
     }
     Some(())

@@ -11,7 +11,7 @@ use crate::suite::common;
 use apdu::Status;
 use objects::request::ConnectionRequest;
 use replies::reply::Reply;
-use tables::Tables;
+use tables::{Connection, Master, Tables};
 
 // Establishes a connection under the master of an identifier. A master that is asked for more than its limit goes, with all
 // that rests on it.
@@ -27,7 +27,7 @@ pub fn establish_connection(
     ensures answers { Kept tables.old tables.new }
 {
     let id = request.master;
-    let Some(master) = tables.master_named(id) else {
+    let Some(master) = tables.named::<Master>(id) else {
         return Err(Status::NoSuchIdentifier);
     };
     let Some(suite) = common(request.ciphers, request.mechanisms) else {
@@ -37,7 +37,7 @@ pub fn establish_connection(
         tables.remove_master(master.row);
         return Err(Status::LimitPassed);
     };
-    let Some(row) = tables.free_connection() else {
+    let Some(row) = tables.free::<Connection>() else {
         return Err(Status::NoRoom);
     };
     let Some(()) = new_connection_id(tables, random) else {

@@ -8,6 +8,7 @@ ghost use Rattle.associate.specs.Said.{cut};
 
 use hmac::{expand, mac};
 use sealing::Suite;
+use table_rows::Row;
 use tables::{At, Connection, Key, Master};
 
 // The identifier that random bytes make.
@@ -89,7 +90,7 @@ pub fn new_connection(
 }
 
 // A connection that is not started, with its keys cut from the material.
-fn unstarted(id: [u8; 16], master: usize, suite: Suite, material: &[u8]) -> Connection
+fn unstarted(id: [u8; 16], master: Row, suite: Suite, material: &[u8]) -> Connection
     requires { length material.now ≡ 64 }
     ensures is { connection_of result ≡ cut id master suite material.now }
     ensures unstarted { result.session ≡ None }

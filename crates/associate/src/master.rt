@@ -10,7 +10,7 @@ use crate::derive::new_master;
 use apdu::Status;
 use objects::request::MasterRequest;
 use replies::reply::{MasterReply, Reply};
-use tables::Tables;
+use tables::{Key, Master, Tables};
 
 // Establishes a master under the key of a reference. A key that is asked for more than its limit goes, with all that rests
 // on it.
@@ -23,7 +23,7 @@ pub fn establish_master(
     ensures steps { master_steps keyed (tables_of tables.old) random.now request.now.reference.now request.now.mechanisms ≡ done (tables_of tables.new) (replied result) }
     ensures answers { Kept tables.old tables.new }
 {
-    let Some(key) = tables.key_named(request.reference) else {
+    let Some(key) = tables.named::<Key>(request.reference) else {
         return Err(Status::NotPossible);
     };
     let Some(()) = agreed(&key.item, request.mechanisms) else {
@@ -36,14 +36,14 @@ pub fn establish_master(
         tables.remove_key(key.row);
         return Err(Status::LimitPassed);
     };
-    let Some(row) = tables.free_master() else {
+    let Some(row) = tables.free::<Master>() else {
         return Err(Status::NoRoom);
     };
     let Some(()) = new_master_id(tables, random) else {
         return Err(Status::NotPossible);
     };
     let master = new_master(&key, random);
-    tables.enter_master(key, row, master);
     let id = master.id;
+    tables.enter_master(key, row, master);
     Ok(Reply::Master(MasterReply { id }))
 }

@@ -11,7 +11,8 @@ use apdu::Status;
 use objects::request::StartRequest;
 use replies::reply::Reply;
 use session::{Session, Talk};
-use tables::Tables;
+use table_rows::Row;
+use tables::{Connection, Tables};
 
 // Starts the session of the connection of an identifier.
 pub fn start(
@@ -28,7 +29,7 @@ pub fn start(
         container,
         mac,
     } = *request;
-    let Some(connection) = tables.connection_named(id) else {
+    let Some(connection) = tables.named::<Connection>(id) else {
         return Err(Status::NoSuchIdentifier);
     };
     let Some(()) = fresh(&connection.item) else {
@@ -48,9 +49,8 @@ pub fn start(
 }
 
 // The byte of the session in a row: row × 64.
-fn session_byte(row: usize) -> u8
-    requires { row < 4 }
+fn session_byte(row: Row) -> u8
     ensures { result ≡ row * 64 }
 {
-    (row * 64) as u8
+    row.byte() * 64
 }

@@ -8,7 +8,7 @@ ghost use Rattle.associate.specs.Steps.{end_master_steps, end_connection_steps, 
 use crate::mac::end_mac;
 use apdu::Status;
 use objects::request::{EndRequest, Named};
-use tables::Tables;
+use tables::{Connection, Master, Tables};
 
 // Terminates what a request names. What is not there has nothing to end.
 pub fn terminate(
@@ -33,7 +33,7 @@ fn end_master(tables: &mut Tables, id: &[u8], mac: &[u8], area: &mut [u8]) -> Re
     ensures steps { end_master_steps keyed (tables_of tables.old) id.now mac.now ≡ done (tables_of tables.new) (ended result) }
     ensures answers { Kept tables.old tables.new }
 {
-    let Some(master) = tables.master_named(id) else {
+    let Some(master) = tables.named::<Master>(id) else {
         return Ok(());
     };
     let Some(()) = end_mac(&master.item.secret, &master.item.id, mac, area) else {
@@ -49,7 +49,7 @@ fn end_connection(tables: &mut Tables, id: &[u8], mac: &[u8], area: &mut [u8]) -
     ensures steps { end_connection_steps keyed (tables_of tables.old) id.now mac.now ≡ done (tables_of tables.new) (ended result) }
     ensures answers { Kept tables.old tables.new }
 {
-    let Some(connection) = tables.connection_named(id) else {
+    let Some(connection) = tables.named::<Connection>(id) else {
         return Ok(());
     };
     let Some(()) = end_mac(&connection.item.mac, &connection.item.id, mac, area) else {

@@ -10,6 +10,7 @@ ghost use Rattle.card.specs.Refusals.{load_number, refused_text};
 use crate::refusal::LoadRefusal;
 use manage::Core;
 use personalise::{Refusal, read};
+use tables::Key;
 
 // The card's refusal of a text that gives no key.
 fn refused(refusal: Refusal) -> LoadRefusal
@@ -31,10 +32,10 @@ pub(crate) fn load(core: &mut Core, text: &[u8]) -> Result<(), LoadRefusal>
         Ok(key) => key,
         Err(refusal) => return Err(refused(refusal)),
     };
-    if core.tables.key_named(key.reference()).is_some() {
+    if core.tables.named::<Key>(key.reference()).is_some() {
         return Err(LoadRefusal::AlreadyHeld);
     }
-    let Some(row) = core.tables.free_key() else {
+    let Some(row) = core.tables.free::<Key>() else {
         return Err(LoadRefusal::NoRow);
     };
     core.tables.enter_key(row, key);

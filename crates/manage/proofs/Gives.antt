@@ -3,17 +3,19 @@ use Rattle.std.proofs.Common.{◌≡◌, ℕ, ◌+◌, ◌^◌, ◌<◌, ◌≤�
 use Rattle.std.proofs.lemmas.List.{length-take, length-drop}
 use Rattle.buffer.specs.Held.{held}
 use Rattle.buffer.specs.declared.Store.{Store}
-use Rattle.apdu.specs.Reply.{reply, fronted}
+use Rattle.apdu.specs.Reply.{reply}
 use Rattle.apdu.specs.StatusWords.{status_bytes}
 use Rattle.apdu.specs.declared.status.Status.{Status}
 use Rattle.apdu.specs.declared.status.Status.TheVariants.{MoreToFetch, Done}
 use Rattle.replies.specs.Blocks.{Part, block_of}
 use Rattle.request.specs.View.{kind_of}
-use Rattle.request.specs.declared.kind.Kind.{Kind}
+use Rattle.apdu.specs.declared.kind.Kind.{Kind}
 use Rattle.law.specs.Calls.{replied}
 use Rattle.law.specs.Step.{Move, does, given, put, waits}
 use Rattle.manage.specs.declared.pending.Pending.TheVariants as pending
 use Rattle.manage.specs.declared.card_core.Core.{Core}
+use Rattle.manage.specs.declared.told.Told.{Told}
+use Rattle.manage.specs.Told.{bytes_of}
 use Rattle.manage.specs.View.{core_of, Replied}
 use Rattle.manage.proofs.Stays.{stays}
 
@@ -25,16 +27,14 @@ ends : (b : Bool) → cond b (status_bytes MoreToFetch) (status_bytes Done) ≡ 
 ends true = refl
 ends false = refl
 
-pub gives : (c : Core) (k : Kind) (z : Store 288) (at most n : ℕ) (p : Part) (s : Status) (lent written : List ℕ)
-    → p ≡ block_of (held z) at most → s ≡ cond p.more MoreToFetch Done
-    → n ≡ length (reply p.bytes s) → written ≡ fronted (reply p.bytes s) lent
-    → Replied (given (core_of c) (kind_of k) (held z) at most) c (with_reply c k z (at + length p.bytes)) lent written n
-gives c k z at most n p s lent written e h l w = record {
-  reply = reply p.bytes s;
-  move = ap by (sym e) ∙ ap (λ (t : List ℕ). does (core_of (with_reply c k z (at + length p.bytes))) (replied (p.bytes ++ t))) (ends p.more ∙ ap status_bytes (sym h));
+pub gives : (c : Core) (k : Kind) (z : Store 288) (at most : ℕ) (p : Part) (s : Status) (t : Told)
+    → p ≡ block_of (held z) at most → s ≡ cond p.more MoreToFetch Done → bytes_of t ≡ reply p.bytes s
+    → Replied (given (core_of c) (kind_of k) (held z) at most) c (with_reply c k z (at + length p.bytes)) t
+gives c k z at most p s t e h w = record {
+  move =
+      ap by (sym e) ∙ ap (λ (y : List ℕ). does (core_of (with_reply c k z (at + length p.bytes))) (replied (p.bytes ++ y))) (ends p.more ∙ ap status_bytes (sym h))
+      ∙ ap (λ (y : List ℕ). does (core_of (with_reply c k z (at + length p.bytes))) (replied y)) (sym w);
   answers = stays c.tables;
-  len = l;
-  bytes = w;
 }
   where
     by : Part → Move

@@ -2,3 +2,4 @@ pub mod Stays
 pub mod Gives
 pub mod Said
 pub mod Decided
+pub mod SameKinds

@@ -1,28 +1,30 @@
 -- Moves that are a status word alone, and moves that are another by a check's outcome.
-use Rattle.std.proofs.Common.{◌≡◌, ℕ, List, [], ◌++◌, length, Some, None, sym, refl, ap, ◌∙◌}
+use Rattle.std.proofs.Common.{◌≡◌, ℕ, List, [], ◌++◌, Some, None, sym, refl, ap, ◌∙◌}
 use Rattle.apdu.specs.Command.{Shape, bare, le, alone, both}
-use Rattle.apdu.specs.Reply.{reply, fronted}
+use Rattle.apdu.specs.Reply.{reply}
 use Rattle.apdu.specs.declared.status.Status.{Status}
 use Rattle.apdu.specs.declared.status.Status.TheVariants.{WrongLength}
 use Rattle.objects.specs.Joined.{object}
 use Rattle.law.specs.Request as law
 use Rattle.law.specs.Step as law_step
 use Rattle.law.specs.Associations.{Hashing}
-use Rattle.law.specs.Step.{Move, says, given, gives_reply, joins, joined}
+use Rattle.law.specs.Calls.{replied}
+use Rattle.law.specs.Step.{Move, does, says, given, gives_reply, joins, joined}
 use Rattle.law.proofs.Rows.{no_some, some_same}
 use Rattle.manage.specs.declared.card_core.Core.{Core}
+use Rattle.manage.specs.declared.told.Told.{Told}
+use Rattle.manage.specs.Told.{bytes_of}
 use Rattle.manage.specs.View.{core_of, Said, Replied}
-use Rattle.manage.specs.Shapes.{le_alone, data_alone}
+use Rattle.apdu.specs.Alone.{le_alone, data_alone}
 use Rattle.manage.proofs.Stays.{stays}
 
--- A status word that stands in the buffer.
-pub with_status : (m : Move) (before after : Core) (s : Status) (lent written : List ℕ) (n : ℕ)
-    → Said m before after s → n ≡ length (reply [] s) → written ≡ fronted (reply [] s) lent → Replied m before after lent written n
-with_status m before after s lent written n d l w = record { reply = reply [] s; move = d.move; answers = d.answers; len = l; bytes = w }
+-- A status word that is told, and nothing changes.
+pub tells : (m : Move) (c : Core) (s : Status) (t : Told) → m ≡ says (core_of c) s → bytes_of t ≡ reply [] s → Replied m c c t
+tells m c s t e w = record { move = e ∙ ap (λ (zs : List ℕ). does (core_of c) (replied zs)) (sym w); answers = stays c.tables }
 
 -- One move is another.
-pub is_same : (m m' : Move) (before after : Core) (lent written : List ℕ) (n : ℕ) → m ≡ m' → Replied m' before after lent written n → Replied m before after lent written n
-is_same m m' before after lent written n e d = record { reply = d.reply; move = e ∙ d.move; answers = d.answers; len = d.len; bytes = d.bytes }
+pub is_same : (m m' : Move) (before after : Core) (t : Told) → m ≡ m' → Replied m' before after t → Replied m before after t
+is_same m m' before after t e d = record { move = e ∙ d.move; answers = d.answers }
 
 pub said_same : (m m' : Move) (before after : Core) (s : Status) → m ≡ m' → Said m' before after s → Said m before after s
 said_same m m' before after s e d = record { move = e ∙ d.move; answers = d.answers }

@@ -2,7 +2,6 @@
 ghost use Rattle.std.specs.Prelude.{◌≡◌, ◌<◌, ◌≤◌, [], length};
 ghost use Rattle.buffer.specs.Held.{held};
 ghost use Rattle.apdu.specs.View.{shape_of};
-ghost use Rattle.apdu.specs.Writing.{Proper};
 ghost use Rattle.objects.specs.Joined.{object};
 ghost use Rattle.request.specs.View.{kind_of};
 ghost use Rattle.law.specs.Request.{asked, same_kind};
@@ -13,14 +12,11 @@ ghost use Rattle.tables.specs.View.{tables_of};
 ghost use Rattle.manage.specs.View.{core_of, pending_of, with_pending, refused_core, granted, Said};
 
 use crate::card_core::Core;
-use crate::join::join;
 use crate::pending::{Gathered, Pending, Waiting};
-use crate::shape::data_alone;
-use apdu::{Body, Status};
+use apdu::{Body, Kind, Status};
 use associate::carry_out;
-use buffer::{Buffer, ROOM};
+use buffer::{Buffer, ROOM, Store};
 use objects::join::{Unread, read_object};
-use request::Kind;
 
 // The most bytes of blocks that are joined: what a buffer holds, and one block more.
 const JOINED: usize = ROOM + 255;
@@ -59,8 +55,7 @@ impl Core {
         }
     }
     // A whole object is carried out.
-    fn carry_out(&mut self, kind: Kind, value: &[u8], random: &[u8], area: &mut [u8]) -> Status
-        requires random { length random.now ≡ 32 }
+    fn carry_out(&mut self, kind: Kind, value: &[u8], random: &[u8; 32], area: &mut [u8]) -> Status
         requires area { 64 ≤ length area.old }
         ensures { Said (decides keyed (core_of self.old) random.now (kind_of kind) (asked (kind_of kind) value.now) (verdict keyed (tables_of self.old.tables) random.now (asked (kind_of kind) value.now))) self.old self.new result }
     {
@@ -71,8 +66,7 @@ impl Core {
     }
 
     // Joined blocks: no object, the beginning of one, or a whole one.
-    fn judge(&mut self, kind: Kind, bytes: &[u8], random: &[u8], area: &mut [u8]) -> Status
-        requires random { length random.now ≡ 32 }
+    fn judge(&mut self, kind: Kind, bytes: &[u8], random: &[u8; 32], area: &mut [u8]) -> Status
         requires area { 64 ≤ length area.old }
         ensures { Said (joined keyed (core_of self.old) random.now (kind_of kind) bytes.now (object bytes.now)) self.old self.new result }
     {
@@ -94,27 +88,29 @@ impl Core {
         kind: Kind,
         gathered: &[u8],
         body: Body<'_>,
-        random: &[u8],
+        random: &[u8; 32],
         area: &mut [u8],
     ) -> Status
         requires gathered { length gathered.now ≤ 288 }
-        requires proper { Proper (shape_of body) }
-        requires random { length random.now ≡ 32 }
         requires area { 64 ≤ length area.old }
         ensures { Said (joins keyed (core_of self.old) random.now (kind_of kind) gathered.now (shape_of body.entry)) self.old self.new result }
     {
-        let Some(part) = data_alone(body) else {
+        let Some(part) = body.data_alone() else {
             return Status::WrongLength;
         };
-        let mut joined = [0; JOINED];
-        let len = join(&mut joined, gathered, part);
-        self.judge(kind, &joined[..len], random, area)
+        let mut joined: Store<JOINED> = Store::from_slice(gathered);
+        joined.append(part.bytes).unwrap();
+        self.judge(kind, joined.as_slice(), random, area)
     }
 
     // P2 80: a first command block.
-    pub fn begin(&mut self, kind: Kind, body: Body<'_>, random: &[u8], area: &mut [u8]) -> Status
-        requires proper { Proper (shape_of body) }
-        requires random { length random.now ≡ 32 }
+    pub fn begin(
+        &mut self,
+        kind: Kind,
+        body: Body<'_>,
+        random: &[u8; 32],
+        area: &mut [u8],
+    ) -> Status
         requires area { 64 ≤ length area.old }
         ensures { Said (joins keyed (core_of self.old) random.now (kind_of kind) [] (shape_of body.entry)) self.old self.new result }
     {
@@ -127,24 +123,26 @@ impl Core {
         kind: Kind,
         gathered: Gathered,
         body: Body<'_>,
-        random: &[u8],
+        random: &[u8; 32],
         area: &mut [u8],
     ) -> Status
-        requires proper { Proper (shape_of body) }
-        requires random { length random.now ≡ 32 }
         requires area { 64 ≤ length area.old }
         ensures { Said (continues_as keyed (core_of self.old) random.now (kind_of kind) (held gathered.bytes) (shape_of body.entry) (same_kind (kind_of gathered.kind) (kind_of kind))) self.old self.new result }
     {
-        if !gathered.kind.same(kind) {
+        if gathered.kind != kind {
             return Status::WrongParameters;
         }
         self.join(kind, gathered.bytes.as_slice(), body, random, area)
     }
 
     // P2 00: a next command block, which joins what was gathered.
-    pub fn resume(&mut self, kind: Kind, body: Body<'_>, random: &[u8], area: &mut [u8]) -> Status
-        requires proper { Proper (shape_of body) }
-        requires random { length random.now ≡ 32 }
+    pub fn resume(
+        &mut self,
+        kind: Kind,
+        body: Body<'_>,
+        random: &[u8; 32],
+        area: &mut [u8],
+    ) -> Status
         requires area { 64 ≤ length area.old }
         ensures { Said (continues keyed (core_of self.old) random.now (kind_of kind) (shape_of body.entry) (pending_of self.old.pending)) self.old self.new result }
     {

@@ -1,9 +1,7 @@
 // Replies given in blocks.
-ghost use Rattle.std.specs.Prelude.{◌≡◌, ◌≤◌, length, if◌then◌else◌};
+ghost use Rattle.std.specs.Prelude.{◌≡◌, ◌≤◌};
 ghost use Rattle.buffer.specs.Held.{held};
 ghost use Rattle.apdu.specs.View.{shape_of};
-ghost use Rattle.apdu.specs.Writing.{Proper};
-ghost use Rattle.apdu.specs.declared.status.Status.TheVariants.{MoreToFetch, Done};
 ghost use Rattle.request.specs.View.{kind_of};
 ghost use Rattle.law.specs.Request.{discovery, same_kind};
 ghost use Rattle.law.specs.Step.{says, given, gives_reply, replies_as, answers, goes_on, discovery_object};
@@ -11,116 +9,96 @@ ghost use Rattle.manage.specs.View.{core_of, pending_of, Replied};
 
 use crate::card_core::Core;
 use crate::pending::{Pending, Waiting};
-use crate::shape::le_alone;
-use apdu::{Body, Status, put_reply, put_status};
+use crate::told::Told;
+use apdu::{Body, Kind, Le, Status};
 use associate::object;
 use buffer::Buffer;
 use replies::block::reply_block;
 use replies::reply::{DiscoveryReply, Reply};
-use request::Kind;
-
-// The status word behind a reply block.
-fn end_of(more: bool) -> Status
-    ensures { result ≡ (if more then MoreToFetch else Done) }
-{
-    if more {
-        Status::MoreToFetch
-    } else {
-        Status::Done
-    }
-}
 
 impl Core {
     // Gives up to so many bytes of a reply from a place on, and remembers how far that went.
-    fn give_block(&mut self, waiting: Waiting, most: u16, reply: &mut [u8]) -> usize
-        requires most { most ≤ 256 }
-        requires room { 258 ≤ length reply.old }
-        ensures { Replied (given (core_of self.old) (kind_of waiting.kind) (held waiting.reply) waiting.given most) self.old self.new reply.old reply.new result }
+    fn give_block(&mut self, waiting: Waiting, most: Le) -> Told
+        ensures { Replied (given (core_of self.old) (kind_of waiting.kind) (held waiting.reply) waiting.given most.wanted) self.old self.new result }
     {
-        let block = reply_block(waiting.reply.as_slice(), waiting.given, usize::from(most));
+        let block = reply_block(
+            waiting.reply.as_slice(),
+            waiting.given,
+            usize::from(most.wanted),
+        );
         self.pending = Pending::Reply(Waiting {
             given: waiting.given + block.bytes.len(),
             ..waiting
         });
-        put_reply(reply, block.bytes, end_of(block.more))
+        let end = if block.more {
+            Status::MoreToFetch
+        } else {
+            Status::Done
+        };
+        Told::block(block.bytes, end)
     }
     // A reply block carries Le alone.
-    fn give(&mut self, waiting: Waiting, body: Body<'_>, reply: &mut [u8]) -> usize
-        requires proper { Proper (shape_of body) }
-        requires room { 258 ≤ length reply.old }
-        ensures { Replied (gives_reply (core_of self.old) (kind_of waiting.kind) (held waiting.reply) waiting.given (shape_of body.entry)) self.old self.new reply.old reply.new result }
+    fn give(&mut self, waiting: Waiting, body: Body<'_>) -> Told
+        ensures { Replied (gives_reply (core_of self.old) (kind_of waiting.kind) (held waiting.reply) waiting.given (shape_of body.entry)) self.old self.new result }
     {
-        let Some(most) = le_alone(body) else {
-            return self.say(Status::WrongLength, reply);
+        let Some(most) = body.le_alone() else {
+            return self.say(Status::WrongLength);
         };
-        self.give_block(waiting, most, reply)
+        self.give_block(waiting, most)
     }
 
     // A status word alone, and nothing changes.
-    fn say(&self, status: Status, reply: &mut [u8]) -> usize
-        requires { 258 ≤ length reply.old }
-        ensures { Replied (says (core_of self.now) status) self.now self.now reply.old reply.new result }
+    fn say(&self, status: Status) -> Told
+        ensures { Replied (says (core_of self.now) status) self.now self.now result }
     {
-        put_status(reply, status)
+        Told::from(status)
     }
     // P1 is to be that of the reply that waits.
-    fn give_as(&mut self, kind: Kind, waiting: Waiting, body: Body<'_>, reply: &mut [u8]) -> usize
-        requires proper { Proper (shape_of body) }
-        requires room { 258 ≤ length reply.old }
-        ensures { Replied (replies_as (core_of self.old) (kind_of kind) (held waiting.reply) waiting.given (shape_of body.entry) (same_kind (kind_of waiting.kind) (kind_of kind))) self.old self.new reply.old reply.new result }
+    fn give_as(&mut self, kind: Kind, waiting: Waiting, body: Body<'_>) -> Told
+        ensures { Replied (replies_as (core_of self.old) (kind_of kind) (held waiting.reply) waiting.given (shape_of body.entry) (same_kind (kind_of waiting.kind) (kind_of kind))) self.old self.new result }
     {
-        if !waiting.kind.same(kind) {
-            return self.say(Status::WrongParameters, reply);
+        if waiting.kind != kind {
+            return self.say(Status::WrongParameters);
         }
-        self.give(Waiting { kind, ..waiting }, body, reply)
+        self.give(Waiting { kind, ..waiting }, body)
     }
 
     // P2 A0: the reply that waits, from its first byte.
-    pub fn answer(&mut self, kind: Kind, body: Body<'_>, reply: &mut [u8]) -> usize
-        requires proper { Proper (shape_of body) }
-        requires room { 258 ≤ length reply.old }
-        ensures { Replied (answers (core_of self.old) (kind_of kind) (shape_of body.entry) (pending_of self.old.pending)) self.old self.new reply.old reply.new result }
+    pub fn answer(&mut self, kind: Kind, body: Body<'_>) -> Told
+        ensures { Replied (answers (core_of self.old) (kind_of kind) (shape_of body.entry) (pending_of self.old.pending)) self.old self.new result }
     {
         match self.pending {
             Pending::Reply(waiting) => {
-                self.give_as(
-                    kind,
-                    Waiting {
-                        given: 0,
-                        ..waiting
-                    },
-                    body,
-                    reply,
-                )
+                let whole = Waiting {
+                    given: 0,
+                    ..waiting
+                };
+                self.give_as(kind, whole, body)
             }
-            Pending::Nothing | Pending::Object(_) => self.say(Status::NotNow, reply),
+            Pending::Nothing | Pending::Object(_) => self.say(Status::NotNow),
         }
     }
 
     // P2 20: the reply that waits, from where the last block ended.
-    pub fn go_on(&mut self, kind: Kind, body: Body<'_>, reply: &mut [u8]) -> usize
-        requires proper { Proper (shape_of body) }
-        requires room { 258 ≤ length reply.old }
-        ensures { Replied (goes_on (core_of self.old) (kind_of kind) (shape_of body.entry) (pending_of self.old.pending)) self.old self.new reply.old reply.new result }
+    pub fn go_on(&mut self, kind: Kind, body: Body<'_>) -> Told
+        ensures { Replied (goes_on (core_of self.old) (kind_of kind) (shape_of body.entry) (pending_of self.old.pending)) self.old self.new result }
     {
         match self.pending {
-            Pending::Reply(waiting) => self.give_as(kind, waiting, body, reply),
-            Pending::Nothing | Pending::Object(_) => self.say(Status::NotNow, reply),
+            Pending::Reply(waiting) => self.give_as(kind, waiting, body),
+            Pending::Nothing | Pending::Object(_) => self.say(Status::NotNow),
         }
     }
 
     // A discovery: what the card says of itself, made anew.
-    pub fn discover(&mut self, body: Body<'_>, reply: &mut [u8]) -> usize
-        requires proper { Proper (shape_of body) }
-        requires room { 258 ≤ length reply.old }
-        ensures { Replied (gives_reply (core_of self.old) discovery (discovery_object self.old.required self.old.failures) 0 (shape_of body.entry)) self.old self.new reply.old reply.new result }
+    pub fn discover(&mut self, body: Body<'_>) -> Told
+        ensures { Replied (gives_reply (core_of self.old) discovery (discovery_object self.old.required self.old.failures) 0 (shape_of body.entry)) self.old self.new result }
     {
         let waiting = Waiting {
             kind: Kind::Discovery,
             reply: self.discovery(),
             given: 0,
         };
-        self.give(waiting, body, reply)
+        self.give(waiting, body)
     }
 
     // The object of a discovery.

@@ -4,9 +4,10 @@
 mod card_core;
 mod gather;
 mod give;
-mod join;
 mod pending;
-mod shape;
+mod tell;
+mod told;
 
 pub use card_core::Core;
 pub use pending::{Gathered, Pending, Waiting};
+pub use told::Told;

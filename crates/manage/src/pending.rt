@@ -1,6 +1,6 @@
 // What is pending between two commands.
+use apdu::Kind;
 use buffer::Buffer;
-use request::Kind;
 
 // The blocks of an object that is not complete, joined.
 #[derive(Clone, Copy)]

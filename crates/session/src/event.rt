@@ -1,22 +1,20 @@
 // What comes to a session, and what the session makes of it.
-use apdu::{Body, Status};
+use apdu::Body;
 
 // What comes to a session, with what stands behind the command's header.
 #[derive(Clone, Copy)]
 pub enum Event<'a> {
     // A block, and how many follow it.
     Block(u8, Body<'a>),
-    // A fetch of the answer's block of this number.
-    Fetch(u8, Body<'a>),
+    // A fetch of a block of the answer.
+    Fetch,
     // A discard.
     Discard(Body<'a>),
 }
 
-// What a session makes of an event.
-#[derive(Clone, Copy)]
+// What a session makes of an event that it does not refuse.
+#[derive(Clone, Copy, PartialEq, Eq, Debug)]
 pub enum Heard {
-    // Nothing is changed, for this reason.
-    Refused(Status),
     // The last block came again; whether it had completed a command.
     Repeated(bool),
     // The block is joined to those before.

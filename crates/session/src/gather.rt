@@ -17,12 +17,8 @@ impl Block {
     pub fn comes_again(&self, p2: u8, body: Body<'_>) -> bool
         ensures { result ≡ repeats (answered (block_of self.now)) p2 (shape_of body.entry) }
     {
-        match body {
-            Body::Data(data) => self.is(p2, data.bytes),
-            Body::Bare => false,
-            Body::Le(_) => false,
-            Body::Both(_, _) => false,
-        }
+        body.data_alone()
+            .is_some_and(|data| self.is(p2, data.bytes))
     }
 }
 
@@ -30,13 +26,8 @@ impl Block {
 pub fn contents<'a>(container: u8, body: Body<'a>) -> Option<&'a [u8]>
     ensures { option_map (λ x. x.now) result ≡ contents container (shape_of body.entry) }
 {
-    match body {
-        Body::Data(data) if data.bytes.len() <= usize::from(container) => Some(data.bytes),
-        Body::Data(_) => None,
-        Body::Bare => None,
-        Body::Le(_) => None,
-        Body::Both(_, _) => None,
-    }
+    let bytes = body.data_alone()?.bytes;
+    (bytes.len() <= usize::from(container)).then_some(bytes)
 }
 
 impl Part {
@@ -47,24 +38,24 @@ impl Part {
         u16::from(p2) + 1 == u16::from(self.last.p2)
     }
 
-    // Joins a block; refused, it changes nothing.
-    pub fn take(&mut self, container: u8, p2: u8, body: Body<'_>) -> Heard
+    // Joins a block; refused, with a status word, it changes nothing.
+    pub fn take(&mut self, container: u8, p2: u8, body: Body<'_>) -> Result<Heard, Status>
         ensures heard { result ≡ (heard container (talk_of (Gathering self.old)) (block p2 (shape_of body.entry))).0 }
         ensures after { talk_of (Gathering self.new) ≡ (heard container (talk_of (Gathering self.old)) (block p2 (shape_of body.entry))).1 }
     {
         if self.last.comes_again(p2, body) {
-            return Heard::Repeated(false);
+            return Ok(Heard::Repeated(false));
         }
         if !self.is_next(p2) {
-            return Heard::Refused(Status::WrongParameters);
+            return Err(Status::WrongParameters);
         }
         let Some(data) = contents(container, body) else {
-            return Heard::Refused(Status::WrongLength);
+            return Err(Status::WrongLength);
         };
         if self.joined.append(data).is_err() {
-            return Heard::Refused(Status::WrongLength);
+            return Err(Status::WrongLength);
         }
         self.last = Block::of(p2, data);
-        Heard::Joined
+        Ok(Heard::Joined)
     }
 }

@@ -41,8 +41,7 @@ impl Session {
         ensures { option_map seen result ≡ cut_block self.now.container (answer_in self.now.talk) number }
     {
         match &self.talk {
-            Talk::Idle => None,
-            Talk::Gathering(_) => None,
+            Talk::Idle | Talk::Gathering(_) => None,
             Talk::Answered(held) => answer_block(held.answer.as_slice(), self.container, number),
         }
     }
@@ -53,9 +52,8 @@ impl Session {
         ensures within { length result.now ≤ 288 }
     {
         match &self.talk {
-            Talk::Idle => &[],
             Talk::Gathering(part) => part.joined.as_slice(),
-            Talk::Answered(_) => &[],
+            Talk::Idle | Talk::Answered(_) => &[],
         }
     }
 

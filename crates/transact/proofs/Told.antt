@@ -1,32 +1,37 @@
 -- What the card says of an event, told from what the session made of it.
-use Rattle.std.proofs.Common.{◌≡◌, ℕ, Bool, true, false, cond, eqb, List, [], map, get_or, Some, None, Option, sym, refl, ap, ◌∙◌}
+use Rattle.std.proofs.Common.{◌≡◌, ℕ, Bool, true, false, cond, eqb, List, [], map, get_or, Some, None, Ok, Err, Option, Result, sym, refl, ap, ◌∙◌}
 use lib.ListN.{get_or-map}
 use Rattle.sealing.specs.Sealing.{Sealing}
 use Rattle.application.specs.Acts.{Acts}
 use Rattle.apdu.specs.Command.{Shape, bare, le, alone, both}
+use Rattle.apdu.specs.Reply.{reply}
 use Rattle.apdu.specs.StatusWords.{status_bytes}
 use Rattle.apdu.specs.declared.status.Status.{Status}
-use Rattle.apdu.specs.declared.status.Status.TheVariants.{NotNow}
+use Rattle.apdu.specs.declared.status.Status.TheVariants as sw
 use Rattle.session.specs.declared.event.Heard.{Heard}
-use Rattle.session.specs.declared.event.Heard.TheVariants.{Refused, Repeated, Joined, Gives, Discarded}
+use Rattle.session.specs.declared.event.Heard.TheVariants.{Repeated, Joined, Gives, Discarded}
 use Rattle.session.specs.declared.state.Session.{Session}
 use Rattle.session.specs.View.{session_of, talk_of, answer_in, answer_of}
 use Rattle.session.specs.Heard.{block, fetch, discard, joins, turns, takes, fetches, discards, heard}
 use Rattle.session.specs.Moved.{moved, talk_after}
-use Rattle.session.proofs.Moves.{block_in_session, block_ends, fetch_in_session, discard_in_session}
+use Rattle.session.proofs.Moves.{block_in_session, block_ends, fetch_in_session, discard_in_session, discard_ends}
+use Rattle.replies.specs.Blocks.{cut_block}
 use Rattle.tables.specs.declared.rows.Connection.{Connection}
-use Rattle.tables.specs.View.{connection_of, answer_at}
+use Rattle.tables.specs.View.{connection_of, connections_of, answers_of, answer_at, Keeps}
 use Rattle.tables.proofs.Kept.{all_kept}
 use Rattle.manage.specs.declared.card_core.Core.{Core}
+use Rattle.manage.specs.declared.told.Told.{Told}
+use Rattle.manage.specs.Told.{bytes_of}
 use Rattle.manage.specs.View.{core_of, Said}
 use Rattle.law.specs.Calls.{replied}
 use Rattle.law.specs.Request as line
 use Rattle.law.specs.Session.{repeats, in_turn, fits, before}
 use Rattle.law.specs.Tables as law
 use Rattle.law.specs.Step as law_step
-use Rattle.law.specs.Step.{Move, Done, says, carries, done, blocks, in_session, completes, holds_talk}
+use Rattle.law.specs.Step.{Move, Done, says, put, talks, carries, done, blocks, in_session, completes, holds_talk, block_given}
 use Rattle.law.proofs.Rows.{never}
-use Rattle.transact.specs.View.{state_of, ended, said, last_of}
+use Rattle.transact.specs.declared.started.Started.{Started}
+use Rattle.transact.specs.View.{state_of, ended, told, said, last_of, session_at, StartedAt}
 
 module _ (𝓢 : Sealing) {M : Type 0} (𝓐 : Acts M) where
   -- A move that is a status word alone, carried out.
@@ -39,13 +44,13 @@ module _ (𝓢 : Sealing) {M : Type 0} (𝓐 : Acts M) where
   pub unchanged : (c : Core) (k : M) (s : Status) → carries 𝓢 𝓐 (state_of c k) (says (core_of c) s) ≡ ended c k s
   unchanged c k s = carried (says (core_of c) s) c c k s (record { move = refl; answers = all_kept c.tables.connections })
 
--- What a block, and a discard, can make of a session.
-abbrev of_block : Heard → Bool
-of_block (Refused s) = true
-of_block (Repeated b) = true
-of_block Joined = true
-of_block Gives = false
-of_block Discarded = false
+-- What a block can make of a session.
+abbrev of_block : Result Heard Status → Bool
+of_block (Err s) = true
+of_block (Ok (Repeated b)) = true
+of_block (Ok Joined) = true
+of_block (Ok Gives) = false
+of_block (Ok Discarded) = false
 
 module _ (size : ℕ) (t : law.Talk) (p2 : ℕ) (s : Shape) where
   joins_block : (b : Bool) → of_block (joins t p2 s b).0 ≡ true
@@ -60,13 +65,21 @@ module _ (size : ℕ) (t : law.Talk) (p2 : ℕ) (s : Shape) where
   takes_block true = refl
   takes_block false = turns_block (in_turn t p2)
 
-  pub block_told : (𝓢 : Sealing) (c : law_step.Core) (row : ℕ) (x : law.Connection) (h : Heard) → h ≡ (heard size t (block p2 s)).0 → (h ≡ Joined → ⊥)
-      → moved 𝓢 c row x size t p2 s h ≡ says c (said row h)
-  block_told 𝓢 c row x (Refused w) e n = refl
+  block_told : (𝓢 : Sealing) (c : law_step.Core) (row : ℕ) (x : law.Connection) (h : Heard) → Ok h ≡ (heard size t (block p2 s)).0 → (h ≡ Joined → ⊥)
+      → moved 𝓢 c row x size t p2 s (Ok h) ≡ says c (said row h)
   block_told 𝓢 c row x (Repeated b) e n = refl
   block_told 𝓢 c row x Joined e n = absurd (n refl)
   block_told 𝓢 c row x Gives e n = never (sym (ap of_block e ∙ takes_block (repeats t p2 s)))
   block_told 𝓢 c row x Discarded e n = never (sym (ap of_block e ∙ takes_block (repeats t p2 s)))
+
+-- A fetch that is not refused.
+fetch_heard : (t : law.Talk) (b : Bool) (h : Heard) → Ok h ≡ (fetches t b).0 → (h ≡ Gives) × (b ≡ true)
+fetch_heard t true h e = (cc, refl)
+fetch_heard t false h e = (cc, cc)
+
+fetch_stays : (t : law.Talk) (b : Bool) → (fetches t b).1 ≡ t
+fetch_stays t true = refl
+fetch_stays t false = refl
 
 -- The size and the state of a started session.
 abbrev size_in : law.Session → ℕ
@@ -77,145 +90,127 @@ abbrev talk_in : law.Session → law.Talk
 talk_in law.unstarted = law.idle
 talk_in (law.started n t) = t
 
-pub same_size : (n m : ℕ) (t u : law.Talk) → law.started n t ≡ law.started m u → n ≡ m
-same_size n m t u e = ap size_in e
+-- Where the session of a row is not started.
+module _ (𝓢 : Sealing) (c : law_step.Core) (row n : ℕ) (s : Shape) where
+  blocks_unstarted : (o : Option law.Connection) → session_at o ≡ law.unstarted → blocks 𝓢 c row n s o ≡ says c sw.NotNow
+  blocks_unstarted None e = refl
+  blocks_unstarted (Some x) e = ap (λ (y : law.Session). in_session 𝓢 c row x n s y) e
 
-pub same_talk : (n m : ℕ) (t u : law.Talk) → law.started n t ≡ law.started m u → t ≡ u
-same_talk n m t u e = ap talk_in e
+  fetches_unstarted : (o : Option law.Connection) → session_at o ≡ law.unstarted → law_step.fetches c row n s o ≡ says c sw.NotNow
+  fetches_unstarted None e = refl
+  fetches_unstarted (Some x) e = ap (λ (y : law.Session). law_step.fetches_in c row n s y) e
 
-module _ (𝓢 : Sealing) {M : Type 0} (𝓐 : Acts M) (c : Core) (k : M) (row p2 : ℕ) (s : Shape) (o : Option law.Connection) where
-  abbrev does_block : Option law.Connection → Done M
-  does_block q = carries 𝓢 𝓐 (state_of c k) (blocks 𝓢 (core_of c) row p2 s q)
+  discards_unstarted : (o : Option law.Connection) → session_at o ≡ law.unstarted → law_step.discards c row s o ≡ says c sw.NotNow
+  discards_unstarted None e = refl
+  discards_unstarted (Some x) e = ap (λ (y : law.Session). law_step.discards_in c row x s y) e
 
-  -- A free row.
-  pub block_free : None ≡ o → carries 𝓢 𝓐 (state_of c k) (blocks 𝓢 (core_of c) row p2 s o) ≡ ended c k NotNow
-  block_free e = ap does_block (sym e) ∙ unchanged 𝓢 𝓐 c k NotNow
-
-  module _ (x : Connection) (held : Some (connection_of x) ≡ o) where
-    -- A session that is not started.
-    pub block_unstarted : x.session ≡ None → carries 𝓢 𝓐 (state_of c k) (blocks 𝓢 (core_of c) row p2 s o) ≡ ended c k NotNow
-    block_unstarted n =
-        ap does_block (sym held)
-        ∙ ap (λ (y : Option Session). carries 𝓢 𝓐 (state_of c k) (in_session 𝓢 (core_of c) row (connection_of x) p2 s (session_of y))) n
-        ∙ unchanged 𝓢 𝓐 c k NotNow
-
-    module _ (z : Session) (is : x.session ≡ Some z) (h : Heard) (e : h ≡ (heard z.container (talk_of z.talk) (block p2 s)).0) where
-      block_moves : does_block o ≡ carries 𝓢 𝓐 (state_of c k) (moved 𝓢 (core_of c) row (connection_of x) z.container (talk_of z.talk) p2 s h)
-      block_moves =
-          ap does_block (sym held)
-          ∙ ap (carries 𝓢 𝓐 (state_of c k)) (block_in_session 𝓢 (core_of c) row (connection_of x) z.container (talk_of z.talk) p2 s (ap session_of is) h e)
-
-      -- Nothing is joined.
-      pub block_said : (h ≡ Joined → ⊥) → carries 𝓢 𝓐 (state_of c k) (blocks 𝓢 (core_of c) row p2 s o) ≡ ended c k (said row h)
-      block_said n =
-          block_moves
-          ∙ ap (carries 𝓢 𝓐 (state_of c k)) (block_told z.container (talk_of z.talk) p2 s 𝓢 (core_of c) row (connection_of x) h e n)
-          ∙ unchanged 𝓢 𝓐 c k (said row h)
-
-    -- The block is joined: the session is y now.
-    pub block_joined : (z y : Session) (d : Done M) → x.session ≡ Some z → Joined ≡ (heard z.container (talk_of z.talk) (block p2 s)).0
-        → session_of (Some y) ≡ law.started z.container (heard z.container (talk_of z.talk) (block p2 s)).1
-        → carries 𝓢 𝓐 (state_of c k) (completes 𝓢 (core_of c) row (connection_of x) y.container (last_of (talk_of y.talk)) (before (talk_of y.talk)) (eqb p2 0)) ≡ d
-        → carries 𝓢 𝓐 (state_of c k) (blocks 𝓢 (core_of c) row p2 s o) ≡ d
-    block_joined z y d is e a w =
-        block_moves z is Joined e
-        ∙ ap (λ (t : law.Talk). by z.container (last_of t) (before t)) (sym talk)
-        ∙ ap (λ (n : ℕ). by n (last_of (talk_of y.talk)) (before (talk_of y.talk))) (sym (same_size y.container z.container (talk_of y.talk) (heard z.container (talk_of z.talk) (block p2 s)).1 a))
-        ∙ w
-      where
-        talk : talk_of y.talk ≡ talk_after (talk_of z.talk) p2 s Joined
-        talk =
-            same_talk y.container z.container (talk_of y.talk) (heard z.container (talk_of z.talk) (block p2 s)).1 a
-            ∙ block_ends z.container (talk_of z.talk) p2 s Joined e
-
-        by : ℕ → line.Block → List ℕ → Done M
-        by n b j = carries 𝓢 𝓐 (state_of c k) (completes 𝓢 (core_of c) row (connection_of x) n b j (eqb p2 0))
-
--- What a discard can make of a session.
-abbrev of_discard : Heard → Bool
-of_discard (Refused s) = true
-of_discard (Repeated b) = false
-of_discard Joined = false
-of_discard Gives = false
-of_discard Discarded = true
-
-discards_told : (t : law.Talk) (s : Shape) → of_discard (discards t s).0 ≡ true
-discards_told t bare = refl
-discards_told t (le n) = refl
-discards_told t (alone d) = refl
-discards_told t (both d n) = refl
-
-pub discard_told : (𝓢 : Sealing) (c : law_step.Core) (row : ℕ) (x : law.Connection) (size : ℕ) (t : law.Talk) (s : Shape) (h : Heard) → h ≡ (heard size t (discard s)).0 → (h ≡ Discarded → ⊥)
-    → moved 𝓢 c row x size t 0 s h ≡ says c (said row h)
-discard_told 𝓢 c row x size t s (Refused w) e n = refl
-discard_told 𝓢 c row x size t s (Repeated b) e n = never (sym (ap of_discard e ∙ discards_told t s))
-discard_told 𝓢 c row x size t s Joined e n = never (sym (ap of_discard e ∙ discards_told t s))
-discard_told 𝓢 c row x size t s Gives e n = never (sym (ap of_discard e ∙ discards_told t s))
-discard_told 𝓢 c row x size t s Discarded e n = absurd (n refl)
-
-module _ (c : Core) (row : ℕ) (s : Shape) (o : Option law.Connection) where
-  abbrev does_discard : Option law.Connection → Move
-  does_discard q = law_step.discards (core_of c) row s q
-
-  nothing_changes : (m : Move) (w : Status) → m ≡ says (core_of c) w → Said m c c w
-  nothing_changes m w e = record { move = e; answers = all_kept c.tables.connections }
-
-  pub discard_free : None ≡ o → Said (law_step.discards (core_of c) row s o) c c NotNow
-  discard_free e = nothing_changes (does_discard o) NotNow (ap does_discard (sym e))
-
-  module _ (x : Connection) (held : Some (connection_of x) ≡ o) where
-    pub discard_unstarted : x.session ≡ None → Said (law_step.discards (core_of c) row s o) c c NotNow
-    discard_unstarted n =
-        nothing_changes (does_discard o) NotNow
-        (ap does_discard (sym held) ∙ ap (λ (y : Option Session). law_step.discards_in (core_of c) row (connection_of x) s (session_of y)) n)
-
-    module _ (𝓢 : Sealing) (z : Session) (is : x.session ≡ Some z) (h : Heard) (e : h ≡ (heard z.container (talk_of z.talk) (discard s)).0) where
-      discard_moves : does_discard o ≡ moved 𝓢 (core_of c) row (connection_of x) z.container (talk_of z.talk) 0 s h
-      discard_moves = ap does_discard (sym held) ∙ discard_in_session 𝓢 (core_of c) row (connection_of x) z.container (talk_of z.talk) 0 s (ap session_of is) h e
-
-      pub discard_said : (h ≡ Discarded → ⊥) → Said (law_step.discards (core_of c) row s o) c c (said row h)
-      discard_said n =
-          nothing_changes (does_discard o) (said row h)
-          (discard_moves ∙ discard_told 𝓢 (core_of c) row (connection_of x) z.container (talk_of z.talk) s h e n)
-
--- A fetch that a session hears gives a block of its answer.
-pub fetch_gives : (𝓢 : Sealing) (c : Core) (row n : ℕ) (s : Shape) (o : Option law.Connection) (x : Connection) (z : Session) → Some (connection_of x) ≡ o → x.session ≡ Some z
-    → Gives ≡ (heard z.container (talk_of z.talk) (fetch n s)).0 → law_step.fetches (core_of c) row n s o ≡ law_step.gives row z.container n s
-fetch_gives 𝓢 c row n s o x z held is e =
-    ap (λ (q : Option law.Connection). law_step.fetches (core_of c) row n s q) (sym held)
-    ∙ fetch_in_session 𝓢 (core_of c) row (connection_of x) z.container (talk_of z.talk) n s (ap session_of is) Gives e
+-- What a row of a core holds.
+abbrev pub at : Core → ℕ → Option law.Connection
+at c row = get_or (connections_of c.tables.connections) row None
 
 -- The answer that a row's session holds.
-pub answer_held : (rows : List (Option Connection)) (row : ℕ) (x : Connection) (z : Session) → Some x ≡ get_or rows row None → x.session ≡ Some z → get_or (map answer_at rows) row [] ≡ answer_in z.talk
+answer_held : (rows : List (Option Connection)) (row : ℕ) (x : Connection) (z : Session) → Some x ≡ get_or rows row None → x.session ≡ Some z → get_or (map answer_at rows) row [] ≡ answer_in z.talk
 answer_held rows row x z e is = get_or-map answer_at rows row None ∙ ap answer_at (sym e) ∙ ap answer_of is
 
--- A session that gives a block of its answer is answered, and stays as it is.
-abbrev is_gift : Heard → Bool
-is_gift (Refused s) = false
-is_gift (Repeated b) = false
-is_gift Joined = false
-is_gift Gives = true
-is_gift Discarded = false
+module _ (𝓢 : Sealing) {M : Type 0} (𝓐 : Acts M) (c : Core) (k : M) (row : ℕ) (s : Shape) where
+  abbrev carry : Move → Done M
+  carry m = carries 𝓢 𝓐 (state_of c k) m
 
-gives_when : (t : law.Talk) (b : Bool) → Gives ≡ (fetches t b).0 → b ≡ true
-gives_when t true e = refl
-gives_when t false e = never (ap is_gift e)
+  -- A status word alone, told.
+  pub tells_status : (m : Move) (w : Status) (t : Told) → m ≡ says (core_of c) w → bytes_of t ≡ reply [] w → carries 𝓢 𝓐 (state_of c k) m ≡ told c k t
+  tells_status m w t e b =
+      ap carry e ∙ unchanged 𝓢 𝓐 c k w ∙ ap (λ (zs : List ℕ). done (core_of c) (answers_of c.tables) k (replied zs)) (sym b)
 
-fetch_stays : (t : law.Talk) (b : Bool) → (fetches t b).1 ≡ t
-fetch_stays t true = refl
-fetch_stays t false = refl
+  -- A session that is not started.
+  pub block_unstarted : (p2 : ℕ) → session_at (at c row) ≡ law.unstarted → carries 𝓢 𝓐 (state_of c k) (blocks 𝓢 (core_of c) row p2 s (at c row)) ≡ ended c k sw.NotNow
+  block_unstarted p2 e = ap carry (blocks_unstarted 𝓢 (core_of c) row p2 s (at c row) e) ∙ unchanged 𝓢 𝓐 c k sw.NotNow
 
-module _ (z y : Session) (n : ℕ) (s : Shape) (e : Gives ≡ (heard z.container (talk_of z.talk) (fetch n s)).0)
-    (a : session_of (Some y) ≡ law.started z.container (heard z.container (talk_of z.talk) (fetch n s)).1) where
-  pub container_stays : y.container ≡ z.container
-  container_stays = same_size y.container z.container (talk_of y.talk) (heard z.container (talk_of z.talk) (fetch n s)).1 a
+  pub discard_unstarted : session_at (at c row) ≡ law.unstarted → carries 𝓢 𝓐 (state_of c k) (law_step.discards (core_of c) row s (at c row)) ≡ ended c k sw.NotNow
+  discard_unstarted e = ap carry (discards_unstarted 𝓢 (core_of c) row 0 s (at c row) e) ∙ unchanged 𝓢 𝓐 c k sw.NotNow
 
-  talk_stays : talk_of y.talk ≡ talk_of z.talk
-  talk_stays =
-      same_talk y.container z.container (talk_of y.talk) (heard z.container (talk_of z.talk) (fetch n s)).1 a
-      ∙ fetch_stays (talk_of z.talk) (holds_talk (talk_of z.talk))
+  pub fetch_unstarted : (n : ℕ) (t : Told) → session_at (at c row) ≡ law.unstarted → bytes_of t ≡ reply [] sw.NotNow
+      → carries 𝓢 𝓐 (state_of c k) (law_step.fetches (core_of c) row n s (at c row)) ≡ told c k t
+  fetch_unstarted n t e b = tells_status (law_step.fetches (core_of c) row n s (at c row)) sw.NotNow t (fetches_unstarted 𝓢 (core_of c) row n s (at c row) e) b
 
-  pub answer_stays : answer_in y.talk ≡ cond (holds_talk (talk_of y.talk)) (answer_in z.talk) [] → answer_in y.talk ≡ answer_in z.talk
-  answer_stays h =
-      h ∙ ap (λ (t : law.Talk). cond (holds_talk t) (answer_in z.talk) []) talk_stays
-      ∙ ap (λ (b : Bool). cond b (answer_in z.talk) []) (gives_when (talk_of z.talk) (holds_talk (talk_of z.talk)) e)
+  module _ (st : Started) (q : StartedAt c row st) where
+    abbrev size : ℕ
+    size = st.session.container
+
+    abbrev was : law.Talk
+    was = talk_of st.session.talk
+
+    abbrev x : law.Connection
+    x = connection_of st.connection
+
+    block_moves : (p2 : ℕ) (h : Result Heard Status) → h ≡ (heard size was (block p2 s)).0 → blocks 𝓢 (core_of c) row p2 s (at c row) ≡ moved 𝓢 (core_of c) row x size was p2 s h
+    block_moves p2 h e =
+        ap (λ (o : Option law.Connection). blocks 𝓢 (core_of c) row p2 s o) (sym q.seen)
+        ∙ block_in_session 𝓢 (core_of c) row x size was p2 s (ap session_of q.is) h e
+
+    -- It is refused, or nothing is joined.
+    pub block_refused : (p2 : ℕ) (w : Status) → Err w ≡ (heard size was (block p2 s)).0
+        → carries 𝓢 𝓐 (state_of c k) (blocks 𝓢 (core_of c) row p2 s (at c row)) ≡ ended c k w
+    block_refused p2 w e = ap carry (block_moves p2 (Err w) e) ∙ unchanged 𝓢 𝓐 c k w
+
+    pub block_said : (p2 : ℕ) (h : Heard) → Ok h ≡ (heard size was (block p2 s)).0 → (h ≡ Joined → ⊥)
+        → carries 𝓢 𝓐 (state_of c k) (blocks 𝓢 (core_of c) row p2 s (at c row)) ≡ ended c k (said row h)
+    block_said p2 h e n =
+        ap carry (block_moves p2 (Ok h) e ∙ block_told size was p2 s 𝓢 (core_of c) row x h e n) ∙ unchanged 𝓢 𝓐 c k (said row h)
+
+    discard_moves : (h : Result Heard Status) → h ≡ (heard size was (discard s)).0 → law_step.discards (core_of c) row s (at c row) ≡ moved 𝓢 (core_of c) row x size was 0 s h
+    discard_moves h e =
+        ap (λ (o : Option law.Connection). law_step.discards (core_of c) row s o) (sym q.seen)
+        ∙ discard_in_session 𝓢 (core_of c) row x size was 0 s (ap session_of q.is) h e
+
+    pub discard_refused : (w : Status) → Err w ≡ (heard size was (discard s)).0
+        → carries 𝓢 𝓐 (state_of c k) (law_step.discards (core_of c) row s (at c row)) ≡ ended c k w
+    discard_refused w e = ap carry (discard_moves (Err w) e) ∙ unchanged 𝓢 𝓐 c k w
+
+    fetch_moves : (n : ℕ) (h : Result Heard Status) → h ≡ (heard size was fetch).0 → law_step.fetches (core_of c) row n s (at c row) ≡ moved 𝓢 (core_of c) row x size was n s h
+    fetch_moves n h e =
+        ap (λ (o : Option law.Connection). law_step.fetches (core_of c) row n s o) (sym q.seen)
+        ∙ fetch_in_session 𝓢 (core_of c) row x size was n s (ap session_of q.is) h e
+
+    pub fetch_refused : (n : ℕ) (w : Status) (t : Told) → Err w ≡ (heard size was fetch).0 → bytes_of t ≡ reply [] w
+        → carries 𝓢 𝓐 (state_of c k) (law_step.fetches (core_of c) row n s (at c row)) ≡ told c k t
+    fetch_refused n w t e b = tells_status (law_step.fetches (core_of c) row n s (at c row)) w t (fetch_moves n (Err w) e) b
+
+    -- The session is y now.
+    module _ (y : Session) where
+      -- The block is joined.
+      pub block_joined : (p2 : ℕ) (d : Done M) → Ok Joined ≡ (heard size was (block p2 s)).0
+          → session_of (Some y) ≡ law.started size (heard size was (block p2 s)).1
+          → carries 𝓢 𝓐 (state_of c k) (completes 𝓢 (core_of c) st.row x y.container (last_of (talk_of y.talk)) (before (talk_of y.talk)) (eqb p2 0)) ≡ d
+          → carries 𝓢 𝓐 (state_of c k) (blocks 𝓢 (core_of c) row p2 s (at c row)) ≡ d
+      block_joined p2 d e a w =
+          ap carry (block_moves p2 (Ok Joined) e)
+          ∙ ap (λ (r : ℕ). by r size (talk_after was p2 s (Ok Joined))) (sym q.row_is)
+          ∙ ap (λ (n : ℕ). by st.row n (talk_after was p2 s (Ok Joined))) (sym (ap size_in a))
+          ∙ ap (by st.row y.container) (sym (ap talk_in a ∙ block_ends size was p2 s (Ok Joined) e))
+          ∙ w
+        where
+          by : ℕ → ℕ → law.Talk → Done M
+          by r n u = carries 𝓢 𝓐 (state_of c k) (completes 𝓢 (core_of c) r x n (last_of u) (before u) (eqb p2 0))
+
+      -- A fetch is heard: a block of the answer is given.
+      pub fetch_given : (n : ℕ) (h : Heard) (t : Told) → Ok h ≡ (heard size was fetch).0 → session_of (Some y) ≡ law.started size (heard size was fetch).1
+          → answer_in y.talk ≡ cond (holds_talk (talk_of y.talk)) (answer_in st.session.talk) []
+          → bytes_of t ≡ block_given row s (cut_block y.container (answer_in y.talk) n)
+          → carries 𝓢 𝓐 (state_of c k) (law_step.fetches (core_of c) row n s (at c row)) ≡ told c k t
+      fetch_given n h t e a z b =
+          ap carry (fetch_moves n (Ok h) e ∙ ap (λ (g : Heard). moved 𝓢 (core_of c) row x size was n s (Ok g)) heard_so.0)
+          ∙ ap (λ (w : List ℕ). by size w) (answer_held c.tables.connections row st.connection st.session q.held q.is)
+          ∙ ap (λ (m : ℕ). by m (answer_in st.session.talk)) (sym (ap size_in a))
+          ∙ ap (by y.container) (sym stays)
+          ∙ ap (λ (zs : List ℕ). done (core_of c) (answers_of c.tables) k (replied zs)) (sym b)
+        where
+          heard_so : (h ≡ Gives) × (holds_talk was ≡ true)
+          heard_so = fetch_heard was (holds_talk was) h e
+
+          by : ℕ → List ℕ → Done M
+          by m w = done (core_of c) (answers_of c.tables) k (replied (block_given row s (cut_block m w n)))
+
+          stays : answer_in y.talk ≡ answer_in st.session.talk
+          stays =
+              z ∙ ap (λ (u : law.Talk). cond (holds_talk u) (answer_in st.session.talk) []) (ap talk_in a ∙ fetch_stays was (holds_talk was))
+              ∙ ap (λ (v : Bool). cond v (answer_in st.session.talk) []) heard_so.1

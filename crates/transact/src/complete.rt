@@ -1,5 +1,5 @@
 // A complete command.
-ghost use Rattle.std.specs.Prelude.{◌≡◌, ◌<◌, ◌≤◌, length, take};
+ghost use Rattle.std.specs.Prelude.{◌≡◌};
 ghost use Rattle.session.specs.View.{talk_of};
 ghost use Rattle.tables.specs.View.{connection_of, tables_of};
 ghost use Rattle.manage.specs.View.{core_of};
@@ -10,51 +10,48 @@ ghost use Rattle.law.specs.Step.{carries, judges};
 ghost use Rattle.transact.specs.View.{state_of, ended, last_of};
 
 use crate::accepted::{Refusal, accept};
-use crate::outcome::{fail, remove, taken};
-use crate::row::answered_row;
+use crate::outcome::taken;
+use crate::parts::Parts;
+use crate::started::Started;
 use apdu::Status;
 use application::Application;
 use buffer::ROOM;
-use manage::Core;
 use sealing::Sealer;
-use session::Session;
-use tables::Connection;
 
-// These bytes at the start of an array.
-fn fronted(bytes: &[u8]) -> [u8; ROOM]
-    requires { length bytes.now ≤ 288 }
-    ensures { take (length bytes.now) result ≡ bytes.now }
-{
-    let mut all = [0; ROOM];
-    all[..bytes.len()].copy_from_slice(bytes);
-    all
-}
-
-// The gathered command is judged: it does not open as it must, and the session goes idle; the limit alone is in the way, and
-// the connection is removed; or it is accepted and counted, the application runs, and its sealed reply waits in the row.
-pub fn complete<S: Sealer, A: Application>(
-    core: &mut Core,
-    sealer: &S,
-    application: &mut A,
-    row: usize,
-    connection: &Connection,
-    session: &Session,
-) -> Status
-    requires row { row < 4 }
-    requires gathers { talk_of session.now.talk ≡ gathering (before (talk_of session.now.talk)) (last_of (talk_of session.now.talk)) }
-    ensures { carries S.Sealer.seals A.Application.acts (state_of core.old (A.Application.contents application.old)) (judges S.Sealer.seals (core_of core.old) row (connection_of connection.now) session.now.container (last_of (talk_of session.now.talk)) (judged S.Sealer.seals (connection_of connection.now) (transactions_limit (tables_of core.old.tables).keys (tables_of core.old.tables).masters connection.now.master) (before (talk_of session.now.talk)))) ≡ ended core.new (A.Application.contents application.new) result }
-{
-    let limit = core.tables.transactions_limit(connection.master);
-    let joined = session.joined();
-    let mut plain = fronted(joined);
-    match accept(sealer, connection, limit, &mut plain, joined.len()) {
-        Err(Refusal::Wrong) => fail(core, row, *connection, session.container),
-        Err(Refusal::Spent) => remove(core, row),
-        Ok(token) => {
-            let answer = token.settle(sealer, application, connection, &plain);
-            core.tables
-                .put_connection(row, answered_row(*connection, *session, answer));
-            taken(row, true)
+impl<S: Sealer, A: Application> Parts<S, A> {
+    // The gathered command is judged: it does not open as it must, and the session goes idle; the limit alone is in the way,
+    // and the connection is removed; or it is accepted and counted, the application runs, and its sealed reply waits in the row.
+    pub(crate) fn complete(&mut self, started: &Started) -> Status
+        requires gathers { talk_of started.now.session.talk ≡ gathering (before (talk_of started.now.session.talk)) (last_of (talk_of started.now.session.talk)) }
+        ensures { carries S.seals A.acts (state_of self.old.core (A.contents self.old.application)) (judges S.seals (core_of self.old.core) started.now.row (connection_of started.now.connection) started.now.session.container (last_of (talk_of started.now.session.talk)) (judged S.seals (connection_of started.now.connection) (transactions_limit (tables_of self.old.core.tables).keys (tables_of self.old.core.tables).masters started.now.connection.master) (before (talk_of started.now.session.talk)))) ≡ ended self.new.core (A.contents self.new.application) result }
+    {
+        let limit = self
+            .core
+            .tables
+            .transactions_limit(started.connection.master);
+        let joined = started.session.joined();
+        let mut plain = [0; ROOM];
+        plain[..joined.len()].copy_from_slice(joined);
+        match accept(
+            &self.sealer,
+            &started.connection,
+            limit,
+            &mut plain,
+            joined.len(),
+        ) {
+            Err(Refusal::Wrong) => started.fail(&mut self.core),
+            Err(Refusal::Spent) => started.remove(&mut self.core),
+            Ok(token) => {
+                let answer = token.settle(
+                    &self.sealer,
+                    &mut self.application,
+                    &started.connection,
+                    &plain,
+                );
+                let held = started.answered(answer);
+                self.core.tables.put_connection(started.row, held);
+                taken(started.row, true)
+            }
         }
     }
 }

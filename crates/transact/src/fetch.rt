@@ -1,37 +1,50 @@
 // Fetching an answer, block by block, and discarding it.
-ghost use Rattle.std.specs.Prelude.{◌≡◌, ◌<◌, ◌≤◌, length, None, slice_index_or};
-ghost use Rattle.apdu.specs.Reply.{fronted};
+ghost use Rattle.std.specs.Prelude.{◌≡◌, None, slice_index_or};
 ghost use Rattle.apdu.specs.View.{shape_of};
-ghost use Rattle.apdu.specs.Writing.{Proper};
 ghost use Rattle.replies.specs.Blocks.{cut_block};
 ghost use Rattle.session.specs.View.{answer_in};
 ghost use Rattle.tables.specs.View.{tables_of};
-ghost use Rattle.manage.specs.View.{core_of, Said};
-ghost use Rattle.law.specs.Step.{discards, enough, block_given};
+ghost use Rattle.manage.specs.Told.{bytes_of};
+ghost use Rattle.manage.specs.View.{core_of};
+ghost use Rattle.law.specs.Step.{carries, fetches, discards, enough, block_given};
+ghost use Rattle.transact.specs.View.{state_of, ended, told};
 
-use crate::outcome::{go_on, said, taken};
-use apdu::{Body, Status, put_reply, put_status};
-use manage::Core;
-use session::{Event, Heard, Session};
+use crate::outcome::taken;
+use crate::parts::Parts;
+use crate::started::Started;
+use apdu::{Body, Status};
+use application::Application;
+use manage::Told;
+use table_rows::Row;
+use sealing::Sealer;
+use session::{Event, Session};
 
-// P1 + 2: a discard makes the session idle.
-pub fn discard(core: &mut Core, row: usize, body: Body<'_>) -> Status
-    requires { row < 4 }
-    ensures { Said (discards (core_of core.old) row (shape_of body.entry) (slice_index_or (tables_of core.old.tables).connections row None)) core.old core.new result }
-{
-    let Some(connection) = core.tables.connection_at(row) else {
-        return Status::NotNow;
-    };
-    let Some(mut session) = connection.session else {
-        return Status::NotNow;
-    };
-    let heard = session.handle(Event::Discard(body));
-    match heard {
-        Heard::Discarded => {
-            go_on(core, row, connection, session);
-            Status::Done
+impl<S: Sealer, A: Application> Parts<S, A> {
+    // P1 + 2: a discard makes the session idle.
+    pub fn discard(&mut self, row: Row, body: Body<'_>) -> Status
+        ensures { carries S.seals A.acts (state_of self.old.core (A.contents self.old.application)) (discards (core_of self.old.core) row (shape_of body.entry) (slice_index_or (tables_of self.old.core.tables).connections row None)) ≡ ended self.new.core (A.contents self.new.application) result }
+    {
+        let Some(mut started) = Started::at(&self.core, row) else {
+            return Status::NotNow;
+        };
+        if let Err(status) = started.session.handle(Event::Discard(body)) {
+            return status;
         }
-        _ => said(row, heard),
+        started.go_on(&mut self.core);
+        Status::Done
+    }
+
+    // P1 + 1: a block of the answer that a session holds.
+    pub fn fetch(&self, row: Row, number: u8, body: Body<'_>) -> Told
+        ensures { carries S.seals A.acts (state_of self.now.core (A.contents self.now.application)) (fetches (core_of self.now.core) row number (shape_of body.entry) (slice_index_or (tables_of self.now.core.tables).connections row None)) ≡ told self.now.core (A.contents self.now.application) result }
+    {
+        let Some(mut started) = Started::at(&self.core, row) else {
+            return Told::from(Status::NotNow);
+        };
+        if let Err(status) = started.session.handle(Event::Fetch) {
+            return Told::from(status);
+        }
+        give(&started.session, row, number, body)
     }
 }
 
@@ -39,27 +52,19 @@ pub fn discard(core: &mut Core, row: usize, body: Body<'_>) -> Status
 fn is_enough(len: usize, body: Body<'_>) -> bool
     ensures { result ≡ enough len (shape_of body.entry) }
 {
-    match body {
-        Body::Le(le) => len <= usize::from(le.wanted),
-        Body::Bare => false,
-        Body::Data(_) => false,
-        Body::Both(_, _) => false,
-    }
+    body.le_alone()
+        .is_some_and(|le| len <= usize::from(le.wanted))
 }
 
 // Gives a block of the answer that a session holds: one that is absent is refused first, then a wrong length.
-pub fn give(session: &Session, row: usize, number: u8, body: Body<'_>, reply: &mut [u8]) -> usize
-    requires row { row < 4 }
-    requires proper { Proper (shape_of body) }
-    requires room { 258 ≤ length reply.old }
-    ensures len { result ≡ length (block_given row (shape_of body.entry) (cut_block session.now.container (answer_in session.now.talk) number)) }
-    ensures bytes { reply.new ≡ fronted (block_given row (shape_of body.entry) (cut_block session.now.container (answer_in session.now.talk) number)) reply.old }
+fn give(session: &Session, row: Row, number: u8, body: Body<'_>) -> Told
+    ensures { bytes_of result ≡ block_given row (shape_of body.entry) (cut_block session.now.container (answer_in session.now.talk) number) }
 {
     let Some(block) = session.answer_block(number) else {
-        return put_status(reply, Status::WrongParameters);
+        return Told::from(Status::WrongParameters);
     };
     if !is_enough(block.bytes.len(), body) {
-        return put_status(reply, Status::WrongLength);
+        return Told::from(Status::WrongLength);
     }
-    put_reply(reply, block.bytes, taken(row, block.more))
+    Told::block(block.bytes, taken(row, block.more))
 }

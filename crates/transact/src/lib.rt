@@ -5,10 +5,10 @@ mod accepted;
 mod complete;
 mod fetch;
 mod outcome;
+mod parts;
 mod receive;
-mod row;
+mod started;
 
 pub use accepted::Accepted;
-pub use fetch::{discard, give};
-pub use outcome::said;
-pub use receive::block;
+pub use parts::Parts;
+pub use started::Started;

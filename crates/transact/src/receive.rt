@@ -1,5 +1,5 @@
 // A block of a session's command.
-ghost use Rattle.std.specs.Prelude.{◌≡◌, ℕ, ◌<◌, List, None, ◌==◌, slice_index_or};
+ghost use Rattle.std.specs.Prelude.{◌≡◌, None, ◌==◌, slice_index_or};
 ghost use Rattle.apdu.specs.View.{shape_of};
 ghost use Rattle.session.specs.View.{talk_of};
 ghost use Rattle.tables.specs.View.{connection_of, tables_of};
@@ -9,57 +9,42 @@ ghost use Rattle.law.specs.Tables.{gathering};
 ghost use Rattle.law.specs.Step.{carries, completes, blocks};
 ghost use Rattle.transact.specs.View.{state_of, ended, last_of};
 
-use crate::complete::complete;
-use crate::outcome::{go_on, said, taken};
+use crate::outcome::{said, taken};
+use crate::parts::Parts;
+use crate::started::Started;
 use apdu::{Body, Status};
 use application::Application;
-use manage::Core;
+use table_rows::Row;
 use sealing::Sealer;
-use session::{Event, Heard, Session};
-use tables::Connection;
+use session::{Event, Heard};
 
-// A block that was joined to those before: the last one completes the command, any other is kept.
-fn join<S: Sealer, A: Application>(
-    core: &mut Core,
-    sealer: &S,
-    application: &mut A,
-    row: usize,
-    connection: &Connection,
-    session: &Session,
-    p2: u8,
-) -> Status
-    requires row { row < 4 }
-    requires gathers { talk_of session.now.talk ≡ gathering (before (talk_of session.now.talk)) (last_of (talk_of session.now.talk)) }
-    ensures { carries S.Sealer.seals A.Application.acts (state_of core.old (A.Application.contents application.old)) (completes S.Sealer.seals (core_of core.old) row (connection_of connection.now) session.now.container (last_of (talk_of session.now.talk)) (before (talk_of session.now.talk)) (p2 == 0)) ≡ ended core.new (A.Application.contents application.new) result }
-{
-    if p2 == 0 {
-        return complete(core, sealer, application, row, connection, session);
+impl<S: Sealer, A: Application> Parts<S, A> {
+    // A block that was joined to those before: the last one completes the command, any other is kept.
+    fn join(&mut self, started: &Started, p2: u8) -> Status
+        requires { talk_of started.now.session.talk ≡ gathering (before (talk_of started.now.session.talk)) (last_of (talk_of started.now.session.talk)) }
+        ensures { carries S.seals A.acts (state_of self.old.core (A.contents self.old.application)) (completes S.seals (core_of self.old.core) started.now.row (connection_of started.now.connection) started.now.session.container (last_of (talk_of started.now.session.talk)) (before (talk_of started.now.session.talk)) (p2 == 0)) ≡ ended self.new.core (A.contents self.new.application) result }
+    {
+        if p2 == 0 {
+            return self.complete(started);
+        }
+        started.go_on(&mut self.core);
+        taken(started.row, false)
     }
-    go_on(core, row, *connection, *session);
-    taken(row, false)
-}
 
-// P1 + 0: a block in the session of a row. It wants a started session, and is joined, or repeats the last one, or is refused.
-pub fn block<S: Sealer, A: Application>(
-    core: &mut Core,
-    sealer: &S,
-    application: &mut A,
-    row: usize,
-    p2: u8,
-    body: Body<'_>,
-) -> Status
-    requires { row < 4 }
-    ensures { carries S.Sealer.seals A.Application.acts (state_of core.old (A.Application.contents application.old)) (blocks S.Sealer.seals (core_of core.old) row p2 (shape_of body.entry) (slice_index_or (tables_of core.old.tables).connections row None)) ≡ ended core.new (A.Application.contents application.new) result }
-{
-    let Some(connection) = core.tables.connection_at(row) else {
-        return Status::NotNow;
-    };
-    let Some(mut session) = connection.session else {
-        return Status::NotNow;
-    };
-    let heard = session.handle(Event::Block(p2, body));
-    match heard {
-        Heard::Joined => join(core, sealer, application, row, &connection, &session, p2),
-        _ => said(row, heard),
+    // P1 + 0: a block in the session of a row. It wants a started session, and is joined, or repeats the last one, or is refused.
+    pub fn block(&mut self, row: Row, p2: u8, body: Body<'_>) -> Status
+        ensures { carries S.seals A.acts (state_of self.old.core (A.contents self.old.application)) (blocks S.seals (core_of self.old.core) row p2 (shape_of body.entry) (slice_index_or (tables_of self.old.core.tables).connections row None)) ≡ ended self.new.core (A.contents self.new.application) result }
+    {
+        let Some(mut started) = Started::at(&self.core, row) else {
+            return Status::NotNow;
+        };
+        let heard = match started.session.handle(Event::Block(p2, body)) {
+            Ok(heard) => heard,
+            Err(status) => return status,
+        };
+        match heard {
+            Heard::Joined => self.join(&started, p2),
+            _ => said(row, heard),
+        }
     }
 }

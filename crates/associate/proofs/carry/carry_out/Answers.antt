@@ -1,6 +1,6 @@
 use Rattle.std.proofs.Common.{Err, refl}
 use Rattle.apdu.specs.declared.status.Status.TheVariants.{WrongData}
-use Rattle.request.specs.declared.kind.Kind.TheVariants.{Discovery, Terminate}
+use Rattle.apdu.specs.declared.kind.Kind.TheVariants.{Discovery, Terminate}
 use Rattle.law.specs.Hashes.{keyed}
 use Rattle.tables.specs.View.{tables_of}
 use Rattle.tables.proofs.Kept.{all_kept}

@@ -27,7 +27,7 @@ returns-then-is_some c =
     let ks = keys_of c.args.core.now.tables.keys in
     let by : List ℕ → Bool = λ r. is_some (found (has_ref r) ks) in
     let h : by k.ref ≡ true =
-    ap by (sym c.reference.ensures.value) ∙ sym (found_some (at_of key_of) c.key_named.result (found (has_ref c.reference.result.now) ks) c.key_named.ensures.found)
+    ap by (sym c.reference.ensures.value) ∙ sym (found_some (at_of key_of) c.named.result (found (has_ref c.reference.result.now) ks) c.named.ensures.found)
     ∙ sym c.is_some.ensures ∙ c.if-is_some.true in
     record { said = held_already d k (loading c.args.text.now) c.in-Ok.ensures.meaning h; answers = all_kept c.args.core.now.tables.connections }
 
@@ -38,9 +38,9 @@ returns-in_default c =
     let ks = keys_of c.args.core.now.tables.keys in
     let by : List ℕ → Bool = λ r. is_some (found (has_ref r) ks) in
     let h : by k.ref ≡ false =
-    ap by (sym c.reference.ensures.value) ∙ sym (found_some (at_of key_of) c.key_named.result (found (has_ref c.reference.result.now) ks) c.key_named.ensures.found)
+    ap by (sym c.reference.ensures.value) ∙ sym (found_some (at_of key_of) c.named.result (found (has_ref c.reference.result.now) ks) c.named.ensures.found)
     ∙ sym c.is_some.ensures ∙ c.if-is_some.false in
     record {
-      said = no_row d k (loading c.args.text.now) c.in-Ok.ensures.meaning h (all_full (full ks) (free ks) c.in_default.ensures.free);
+      said = no_row d k (loading c.args.text.now) c.in-Ok.ensures.meaning h (all_full (full ks) (free ks) c.in_default.ensures);
       answers = all_kept c.args.core.now.tables.connections;
     }

@@ -12,14 +12,14 @@ returns-in_default c =
     let b = c.args.self.now in
     let w = c.args.waiting in
     let s = shape_of c.args.body in
-    is_same (gives_reply (core_of b) (kind_of w.kind) (held w.reply) w.given s) (says (core_of b) WrongLength) b b c.args.reply.now c.say.new.reply c.say.result
-    (no_le (core_of b) (kind_of w.kind) (held w.reply) w.given s c.in_default.ensures.value) c.say.ensures
+    is_same (gives_reply (core_of b) (kind_of w.kind) (held w.reply) w.given s) (says (core_of b) WrongLength) b b c.say.result
+    (no_le (core_of b) (kind_of w.kind) (held w.reply) w.given s c.in_default.ensures) c.say.ensures
 
 pub returns : goal.returns
 returns c =
     let b = c.args.self.now in
     let w = c.args.waiting in
     let s = shape_of c.args.body in
-    is_same (gives_reply (core_of b) (kind_of w.kind) (held w.reply) w.given s) (given (core_of b) (kind_of w.kind) (held w.reply) w.given c.in-Some.most) b c.give_block.new.self
-    c.args.reply.now c.give_block.new.reply c.give_block.result
-    (with_le (core_of b) (kind_of w.kind) (held w.reply) w.given s c.in-Some.most c.in-Some.ensures.value) c.give_block.ensures
+    is_same (gives_reply (core_of b) (kind_of w.kind) (held w.reply) w.given s) (given (core_of b) (kind_of w.kind) (held w.reply) w.given c.in-Some.most.wanted) b c.give_block.new.self
+    c.give_block.result
+    (with_le (core_of b) (kind_of w.kind) (held w.reply) w.given s c.in-Some.most.wanted c.in-Some.ensures) c.give_block.ensures

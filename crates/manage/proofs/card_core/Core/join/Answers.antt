@@ -1,4 +1,4 @@
-use Rattle.std.proofs.Common.{take}
+use Rattle.std.proofs.Common.{◌≡◌, ◌++◌, rules}
 use Rattle.apdu.specs.View.{shape_of}
 use Rattle.apdu.specs.declared.status.Status.TheVariants.{WrongLength}
 use Rattle.objects.specs.Joined.{object}
@@ -13,13 +13,14 @@ pub returns-in_default : goal.returns-in_default
 returns-in_default c =
     let d = c.args.self.now in
     still (joins keyed (core_of d) c.args.random.now (kind_of c.args.kind) c.args.gathered.now (shape_of c.args.body)) d WrongLength
-    (no_data keyed (core_of d) c.args.random.now (kind_of c.args.kind) c.args.gathered.now (shape_of c.args.body) c.in_default.ensures.value)
+    (no_data keyed (core_of d) c.args.random.now (kind_of c.args.kind) c.args.gathered.now (shape_of c.args.body) c.in_default.ensures)
 
 pub returns : goal.returns
 returns c =
     let d = c.args.self.now in
-    let z = take c.join-len.result c.join-len.new.buffer in
+    let z = c.as_slice.result.now in
+    let w : z ≡ c.args.gathered.now ++ c.in-Some.part.bytes.now = search rules in
     said_same (joins keyed (core_of d) c.args.random.now (kind_of c.args.kind) c.args.gathered.now (shape_of c.args.body))
     (joined keyed (core_of d) c.args.random.now (kind_of c.args.kind) z (object z)) d c.judge.new.self c.judge.result
-    (with_data keyed (core_of d) c.args.random.now (kind_of c.args.kind) c.args.gathered.now (shape_of c.args.body) c.in-Some.part.now z c.in-Some.ensures.value c.join-len.ensures.bytes)
+    (with_data keyed (core_of d) c.args.random.now (kind_of c.args.kind) c.args.gathered.now (shape_of c.args.body) c.in-Some.part.bytes.now z c.in-Some.ensures w)
     c.judge.ensures

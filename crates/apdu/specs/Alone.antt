@@ -1,4 +1,4 @@
--- What a command block and a reply block carry.
+-- What stands alone behind a header, as in a command block and a reply block.
 use Rattle.std.specs.Prelude.{ℕ, List, Some, None, Option}
 use Rattle.apdu.specs.Command.{Shape, bare, le, alone, both}
 

@@ -1,0 +1,42 @@
+// Telling a block and a status word, and writing what is told.
+ghost use Rattle.std.specs.Prelude.{◌≡◌, ◌≤◌, [], length};
+ghost use Rattle.apdu.specs.Reply.{fronted, reply};
+ghost use Rattle.manage.specs.Told.{bytes_of};
+
+use crate::told::Told;
+use apdu::{Status, put_reply};
+use buffer::Store;
+
+// A status word alone.
+impl From<Status> for Told {
+    ghost from_gives = { λ s t. bytes_of t ≡ reply [] s };
+
+    fn from(status: Status) -> Told {
+        Told {
+            block: Store::new(),
+            status,
+        }
+    }
+}
+
+impl Told {
+    // These bytes, and the status word behind them.
+    pub fn block(bytes: &[u8], status: Status) -> Told
+        requires { length bytes.now ≤ 256 }
+        ensures { bytes_of result ≡ reply bytes.now status }
+    {
+        Told {
+            block: Store::from_slice(bytes),
+            status,
+        }
+    }
+
+    // Writes what is told at the start of the buffer, leaves the rest, and gives its length.
+    pub fn write(&self, reply: &mut [u8]) -> usize
+        requires { 258 ≤ length reply.old }
+        ensures len { result ≡ length (bytes_of self.now) }
+        ensures written { reply.new ≡ fronted (bytes_of self.now) reply.old }
+    {
+        put_reply(reply, self.block.as_slice(), self.status)
+    }
+}

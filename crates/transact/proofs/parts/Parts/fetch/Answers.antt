@@ -1,0 +1,23 @@
+use Rattle.std.proofs.Common.{refl}
+use Rattle.apdu.specs.View.{shape_of}
+use Rattle.transact.proofs.Told.{fetch_unstarted, fetch_refused, fetch_given}
+use Rattle.transact.proofs.parts.Parts.fetch.Goals as goal
+
+pub returns-in_default : goal.returns-in_default
+returns-in_default g c =
+    let p = c.args.self.now in
+    fetch_unstarted g.S.Sealer.seals g.A.Application.acts p.core (g.A.Application.contents p.application) c.args.row (shape_of c.args.body)
+    c.args.number c.from.result (c.in_default.ensures.none refl) c.from.ensures
+
+pub returns-in-Err : goal.returns-in-Err
+returns-in-Err g c =
+    let p = c.args.self.now in
+    fetch_refused g.S.Sealer.seals g.A.Application.acts p.core (g.A.Application.contents p.application) c.args.row (shape_of c.args.body)
+    c.in-Some.started c.in-Some.ensures.some c.args.number c.in-Err.status c.from-in-Err.result c.in-Err.ensures.heard c.from-in-Err.ensures
+
+pub returns : goal.returns
+returns g c =
+    let p = c.args.self.now in
+    fetch_given g.S.Sealer.seals g.A.Application.acts p.core (g.A.Application.contents p.application) c.args.row (shape_of c.args.body)
+    c.in-Some.started c.in-Some.ensures.some c.handle.new.self c.args.number c.in_default-handle.field-0 c.give.result
+    c.in_default-handle.ensures.heard c.in_default-handle.ensures.after c.in_default-handle.ensures.answer c.give.ensures

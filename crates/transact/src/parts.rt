@@ -1,0 +1,10 @@
+// The parts of a card.
+use manage::Core;
+
+// What seals, the application, and all the rest of a card.
+#[derive(Drop)]
+pub struct Parts<S, A> {
+    pub sealer: S,
+    pub application: A,
+    pub core: Core,
+}
