@@ -3,3 +3,4 @@ pub mod Writing
 pub mod StatusWords
 pub mod Reply
 pub mod View
+pub mod Kinds

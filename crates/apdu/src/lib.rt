@@ -2,11 +2,13 @@
 #![tactic(auto)]
 
 mod command;
+mod kind;
 mod read;
 mod reply;
 mod status;
 mod words;
 
 pub use command::{Apdu, Body};
+pub use kind::Kind;
 pub use reply::{put_reply, put_status};
 pub use status::Status;
