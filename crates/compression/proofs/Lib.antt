@@ -1,3 +1,2 @@
-pub mod Made
 pub mod Rule
 pub mod Steps

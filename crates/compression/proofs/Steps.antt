@@ -4,7 +4,6 @@ use Rattle.std.specs.List.{fold, zip}
 use Rattle.std.specs.Int.{from_be_bytes, w32}
 use Rattle.std.specs.Simd.{first_chunks}
 use Rattle.std.proofs.lemmas.List.{take_more_set, get_or-take, get_or-drop, drop-drop}
-use Rattle.std.proofs.Math.Seq.{take-suc}
 use Rattle.compression.specs.declared.letters.Eight.{Eight}
 use Rattle.compression.specs.Constants.{constants}
 use Rattle.compression.specs.Compression.{word, words, scheduled, extended, round_of, rounds_with, rounds}
@@ -32,14 +31,14 @@ word_in b t h =
     let e : 4 * t + 0 ≡ 4 * t = omega arith in
     word_of (get_or (first_chunks 4 16 b) t []) b (4 * t) (in_chunk 4 16 b t 0 h (omega arith) ∙ ap (λ i. get_or b i 0) e) (in_chunk 4 16 b t 1 h (omega arith)) (in_chunk 4 16 b t 2 h (omega arith)) (in_chunk 4 16 b t 3 h (omega arith))
 
--- A list begins with the words of a block, if it has each of them in its place.
-pub words_taken : (n : ℕ) (ys b : List ℕ) → n ≤ length ys → ((t : ℕ) → t < n → get_or ys t 0 ≡ word b t) → take n ys ≡ words n b
+pub words_none : (w b : List ℕ) → take 0 w ≡ words 0 b
 unfolding words
-words_taken zero ys b h at = refl
-words_taken (suc n) ys b h at =
-    take-suc ys n 0 (omega arith)
-    ∙ ap (λ y. take n ys ++ y ∷ []) (at n (omega arith))
-    ∙ ap (λ zs. zs ++ word b n ∷ []) (words_taken n ys b (omega arith) (λ t l. at t (omega arith)))
+words_none w b = refl
+
+pub words_more : (w b : List ℕ) (t x : ℕ) → t < length w → x ≡ word b t → take t w ≡ words t b → take (t + 1) (set w t x) ≡ words (t + 1) b
+unfolding words
+words_more w b t x h e was =
+    take_more_set w t x h ∙ ap (λ y. y ++ x ∷ []) was ∙ ap (λ y. words t b ++ y ∷ []) e ∙ ap (λ n. words n b) (sym (add-one t))
 
 -- The words that a new one is made of stand before it.
 before : (w : List ℕ) (t k : ℕ) → 16 ≤ t → 0 < k → get_or (take t w) (t - k) 0 ≡ get_or w (t - k) 0

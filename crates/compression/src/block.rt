@@ -1,19 +1,18 @@
 // One block into eight words.
-ghost use Rattle.std.specs.Prelude.{◌≡◌, ◌<◌, ◌≤◌};
+ghost use Rattle.std.specs.Prelude.{◌≡◌, ◌<◌, ◌≤◌, take};
 ghost use Rattle.std.specs.List.{fold, zip};
-ghost use Rattle.compression.specs.Compression.{words as parsed, scheduled, schedule, first_sum, second_sum, round_of, rounds_with, rounds as turned, sums as added, compressed};
+ghost use Rattle.compression.specs.Compression.{words as parsed, scheduled, extended, first_sum, second_sum, round_of, rounds_with, rounds as turned, sums as added, compressed};
 
 use crate::letters::Eight;
 use crate::tables::constants;
 use crate::words::{choose, lower_one, lower_zero, majority, upper_one, upper_zero};
-use std::array;
-
-// The words of a block, each of four bytes with the highest first.
-fn parse(block: &[u8; 64]) -> [u32; 16]
-    ensures { result ≡ parsed 16 block.now }
+// Writes the sixteen words of a block to the front of a schedule, each of four bytes with the highest first.
+fn parse(block: &[u8; 64], w: &mut [u32; 64])
+    ensures { take 16 w.new ≡ parsed 16 block.now }
 {
-    let fours = block.as_chunks::<4>().0;
-    array::from_fn(|t| u32::from_be_bytes(fours[t]))
+    for (t, four) in block.as_chunks().0.iter().enumerate() {
+        w[t] = u32::from_be_bytes(*four);
+    }
 }
 
 // The word `t` of a schedule, from those before it.
@@ -27,16 +26,13 @@ fn next_word(w: &[u32; 64], t: usize) -> u32
         .wrapping_add(w[t - 16])
 }
 
-// The 64 words of a schedule; each of the last 48 is made of four before it, named by their places.
-fn schedule_of(block: &[u8; 64]) -> [u32; 64]
-    ensures { result ≡ schedule block.now }
+// Writes the other 48 words of a schedule behind its first sixteen; each is made of four before it, named by their places.
+fn extend(w: &mut [u32; 64])
+    ensures { w.new ≡ extended 48 (take 16 w.old) }
 {
-    let mut w = [0; 64];
-    w[..16].copy_from_slice(&parse(block));
     for t in 16..64usize {
-        w[t] = next_word(&w, t);
+        w[t] = next_word(w, t);
     }
-    w
 }
 
 // T1, the sum that `e` gains.
@@ -125,5 +121,8 @@ fn add(u: Eight, v: Eight) -> Eight
 pub fn compress(v: Eight, block: &[u8; 64]) -> Eight
     ensures { result ≡ compressed v block.now }
 {
-    add(v, rounds(&schedule_of(block), v))
+    let mut w = [0; 64];
+    parse(block, &mut w);
+    extend(&mut w);
+    add(v, rounds(&w, v))
 }
