@@ -44,10 +44,7 @@ pub struct Rehearsal {
 impl Rehearsal {
     // A new card, and nothing sent.
     pub fn new(heap: Global) -> anyhow::Result<Rehearsal> {
-        let load = match read(KEY) {
-            Ok(load) => load,
-            Err(refusal) => return Err(anyhow!(refusal.words())),
-        };
+        let load = read(KEY)?;
         Ok(Rehearsal {
             heap,
             load,

@@ -1,4 +1,5 @@
 // Why a load is refused.
+use std::error::Error;
 use std::fmt;
 
 // Why the text of a load gives no key.
@@ -40,3 +41,5 @@ impl fmt::Display for Refusal {
         })
     }
 }
+
+impl Error for Refusal {}

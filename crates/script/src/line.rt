@@ -1,5 +1,5 @@
 // One line of a script.
-use crate::setup::Setup;
+use crate::setup::{NoSuchWord, Setup};
 use numerals::read_decimal;
 use show::unhex;
 use std::alloc::{AllocError, Global};
@@ -33,68 +33,66 @@ pub enum Line {
     Call(Step),
 }
 
-// A length in decimal.
-fn read_length(word: &str) -> Option<usize> {
-    let n = read_decimal(word.as_bytes(), u64::MAX)?;
-    Some(n as usize)
+// Why a line was not read.
+#[derive(Clone, Copy, PartialEq, Eq, Debug)]
+pub enum LineError {
+    // It is not understood.
+    Unknown,
+    // There is no memory for it.
+    Memory,
 }
 
-// A load of the text that the word has in hexadecimal.
-fn read_load(heap: Global, word: &str) -> Result<Option<Line>, AllocError> {
-    let Some(text) = unhex(heap, word)? else {
-        return Ok(None);
-    };
-    Ok(Some(Line::Call(Step::Load(text))))
+impl From<AllocError> for LineError {
+    fn from(_error: AllocError) -> LineError {
+        LineError::Memory
+    }
+}
+
+impl From<NoSuchWord> for LineError {
+    fn from(_error: NoSuchWord) -> LineError {
+        LineError::Unknown
+    }
+}
+
+// A length in decimal.
+fn read_length(word: &str) -> Result<usize, LineError> {
+    let length = read_decimal(word.as_bytes(), u64::MAX).ok_or(LineError::Unknown)?;
+    Ok(length as usize)
+}
+
+// The bytes of a word in hexadecimal.
+fn read_bytes(heap: Global, word: &str) -> Result<Vec<u8>, LineError> {
+    unhex(heap, word)?.ok_or(LineError::Unknown)
 }
 
 // A command of the four words behind its name.
-fn read_command(heap: Global, words: [&str; 4]) -> Result<Option<Line>, AllocError> {
+fn read_command(heap: Global, words: [&str; 4]) -> Result<CommandLine, LineError> {
     let [apdu, random, buffer, work] = words;
-    let (Some(buffer), Some(work)) = (read_length(buffer), read_length(work)) else {
-        return Ok(None);
-    };
-    let (Some(apdu), Some(random)) = (unhex(heap, apdu)?, unhex(heap, random)?) else {
-        return Ok(None);
-    };
-    Ok(Some(Line::Call(Step::Command(CommandLine {
-        apdu,
-        random,
-        buffer,
-        work,
-    }))))
-}
-
-// The setup of two new cards, of the four words behind `new`.
-fn read_new(words: [&str; 4]) -> Option<Line> {
-    Some(Line::New(Setup::read(words)?))
+    Ok(CommandLine {
+        apdu: read_bytes(heap, apdu)?,
+        random: read_bytes(heap, random)?,
+        buffer: read_length(buffer)?,
+        work: read_length(work)?,
+    })
 }
 
 impl Line {
-    // Reads a line; nothing where it is not understood.
-    pub fn read(heap: Global, text: &str) -> Result<Option<Line>, AllocError> {
+    // Reads a line.
+    pub fn read(heap: Global, text: &str) -> Result<Line, LineError> {
         if text.starts_with("#") {
-            return Ok(Some(Line::Nothing));
+            return Ok(Line::Nothing);
         }
-        let mut split = text.split_whitespace();
-        let words = [
-            split.next(),
-            split.next(),
-            split.next(),
-            split.next(),
-            split.next(),
-            split.next(),
-        ];
-        match words {
-            [None, ..] => Ok(Some(Line::Nothing)),
-            [Some("on"), None, ..] => Ok(Some(Line::Call(Step::On))),
-            [Some("off"), None, ..] => Ok(Some(Line::Call(Step::Off))),
-            [Some("load"), Some(word), None, ..] => read_load(heap, word),
-            [Some("new"), Some(a), Some(b), Some(c), Some(d), None] => Ok(read_new([a, b, c, d])),
-            [Some("command"), Some(a), Some(b), Some(c), Some(d), None] => read_command(
-                heap,
-                [a, b, c, d],
-            ),
-            _ => Ok(None),
+        let words: Vec<&str> = text.split_whitespace().collect(heap)?;
+        match *words {
+            [] => Ok(Line::Nothing),
+            ["on"] => Ok(Line::Call(Step::On)),
+            ["off"] => Ok(Line::Call(Step::Off)),
+            ["load", text] => Ok(Line::Call(Step::Load(read_bytes(heap, text)?))),
+            ["new", a, b, c, d] => Ok(Line::New(Setup::read([a, b, c, d])?)),
+            ["command", a, b, c, d] => {
+                Ok(Line::Call(Step::Command(read_command(heap, [a, b, c, d])?)))
+            }
+            _ => Err(LineError::Unknown),
         }
     }
 }

@@ -6,10 +6,5 @@ ghost use Rattle.script.specs.Memory.{All};
 pub fn all_are(bytes: &[u8], value: u8) -> bool
     ensures { Decides result (All value bytes.now) }
 {
-    for b in bytes {
-        if *b != value {
-            return false;
-        }
-    }
-    true
+    bytes.iter().all(|b| *b == value)
 }

@@ -1,5 +1,5 @@
 // A whole script, from one setup of new cards to the next.
-use crate::line::{Line, Step};
+use crate::line::{Line, LineError, Step};
 use crate::setup::Setup;
 use std::alloc::{AllocError, AllocFailed, Global};
 use std::fmt;
@@ -19,7 +19,7 @@ pub struct Script {
 }
 
 // Why a script was not read.
-#[derive(Clone, Copy)]
+#[derive(Clone, Copy, PartialEq, Eq, Debug)]
 pub enum ScriptError {
     // The line of this number, from 1, is not understood.
     Line(usize),
@@ -65,14 +65,15 @@ impl Script {
             sections: Vec::new(heap),
         };
         for (i, line) in text.lines().enumerate() {
-            match Line::read(heap, line)? {
-                Some(Line::Nothing) => {}
-                Some(Line::New(setup)) => script.sections.push(Section {
+            match Line::read(heap, line) {
+                Ok(Line::Nothing) => {}
+                Ok(Line::New(setup)) => script.sections.push(Section {
                     setup,
                     steps: Vec::new(heap),
                 })?,
-                Some(Line::Call(step)) => script.add(step)?,
-                None => return Err(ScriptError::Line(i.saturating_add(1))),
+                Ok(Line::Call(step)) => script.add(step)?,
+                Err(LineError::Unknown) => return Err(ScriptError::Line(i.saturating_add(1))),
+                Err(LineError::Memory) => return Err(ScriptError::Memory),
             }
         }
         Ok(script)

@@ -1,23 +1,25 @@
 // What two new cards are made of.
-ghost use Rattle.std.specs.Prelude.{◌≡◌, Bool, MatchOption, ◌≢◌};
-ghost use Rattle.script.specs.Words.{kept_word, seals_word, channel_word};
+ghost use Rattle.std.specs.Prelude.{◌≡◌, Bool, MatchResult, ◌≢◌};
+ghost use Rattle.script.specs.Words.{channel_word};
+
+use std::str::FromStr;
 
 // What a card's application keeps.
-#[derive(Clone, Copy)]
+#[derive(Clone, Copy, PartialEq, Eq, Debug)]
 pub enum Kept {
     Fares,
     Records,
 }
 
 // Which sealer both cards have.
-#[derive(Clone, Copy)]
+#[derive(Clone, Copy, PartialEq, Eq, Debug)]
 pub enum Seals {
     Real,
     Bench,
 }
 
 // Two new cards: what each keeps, whether they require the channel, and their sealer.
-#[derive(Clone, Copy)]
+#[derive(Clone, Copy, PartialEq, Eq, Debug)]
 pub struct Setup {
     pub left: Kept,
     pub right: Kept,
@@ -25,52 +27,68 @@ pub struct Setup {
     pub seals: Seals,
 }
 
-impl Kept {
+// No word of a setup.
+#[derive(Clone, Copy, PartialEq, Eq, Debug)]
+pub struct NoSuchWord;
+
+impl FromStr for Kept {
+    type Err = NoSuchWord;
+
+    ghost use Rattle.std.specs.Prelude.{◌≡◌, MatchResult, ◌≢◌};
+    ghost use Rattle.script.specs.Words.{kept_word};
+    ghost use Rattle.script.specs.declared.setup.Kept.{Kept as KeptOf};
+
+    ghost from_str_gives = { λ word read. MatchResult read (λ k. word ≡ kept_word k) (λ _. (k : KeptOf) → word ≢ kept_word k) };
+
     // What the word names.
-    fn named(word: &str) -> Option<Kept>
-        ensures { MatchOption result ((k : Kept) → word.now ≢ kept_word k) (λ k. word.now ≡ kept_word k) }
-    {
+    fn from_str(word: &str) -> Result<Kept, NoSuchWord> {
         match word {
-            "fares" => Some(Kept::Fares),
-            "records" => Some(Kept::Records),
-            _ => None,
+            "fares" => Ok(Kept::Fares),
+            "records" => Ok(Kept::Records),
+            _ => Err(NoSuchWord),
         }
     }
 }
 
-impl Seals {
+impl FromStr for Seals {
+    type Err = NoSuchWord;
+
+    ghost use Rattle.std.specs.Prelude.{◌≡◌, MatchResult, ◌≢◌};
+    ghost use Rattle.script.specs.Words.{seals_word};
+    ghost use Rattle.script.specs.declared.setup.Seals.{Seals as SealsOf};
+
+    ghost from_str_gives = { λ word read. MatchResult read (λ s. word ≡ seals_word s) (λ _. (s : SealsOf) → word ≢ seals_word s) };
+
     // The sealer that the word names.
-    fn named(word: &str) -> Option<Seals>
-        ensures { MatchOption result ((s : Seals) → word.now ≢ seals_word s) (λ s. word.now ≡ seals_word s) }
-    {
+    fn from_str(word: &str) -> Result<Seals, NoSuchWord> {
         match word {
-            "real" => Some(Seals::Real),
-            "bench" => Some(Seals::Bench),
-            _ => None,
+            "real" => Ok(Seals::Real),
+            "bench" => Ok(Seals::Bench),
+            _ => Err(NoSuchWord),
         }
     }
 }
 
 // Whether cards require the channel.
-fn channel_named(word: &str) -> Option<bool>
-    ensures { MatchOption result ((b : Bool) → word.now ≢ channel_word b) (λ b. word.now ≡ channel_word b) }
+fn channel_named(word: &str) -> Result<bool, NoSuchWord>
+    ensures { MatchResult result (λ b. word.now ≡ channel_word b) (λ _. (b : Bool) → word.now ≢ channel_word b) }
 {
     match word {
-        "required" => Some(true),
-        "open" => Some(false),
-        _ => None,
+        "required" => Ok(true),
+        "open" => Ok(false),
+        _ => Err(NoSuchWord),
     }
 }
 
 impl Setup {
     // Reads the four words behind `new`.
-    pub fn read(words: [&str; 4]) -> Option<Setup> {
+    pub fn read(words: [&str; 4]) -> Result<Setup, NoSuchWord> {
         let [left, right, channel, seals] = words;
-        Some(Setup {
-            left: Kept::named(left)?,
-            right: Kept::named(right)?,
+        Ok(Setup {
+            left: left.parse()?,
+            right: right.parse()?,
             required: channel_named(channel)?,
-            seals: Seals::named(seals)?,
+            seals: seals.parse()?,
         })
     }
 }

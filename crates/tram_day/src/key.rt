@@ -31,10 +31,7 @@ fn show_limits(rt: &HostRuntime, load: &KeyLoad) -> anyhow::Result<()> {
 // Loads the key into both cards; what the terminal knows of it.
 pub fn load(rt: &HostRuntime, cards: &mut Cards) -> anyhow::Result<KeyLoad> {
     let text = text(rt)?;
-    let load = match read(text.as_slice()) {
-        Ok(load) => load,
-        Err(refusal) => return Err(anyhow!(refusal.words())),
-    };
+    let load = read(text.as_slice())?;
     println!(rt; "The key is loaded into both cards, left a fare counter, right a record file")?;
     show_limits(rt, &load)?;
     let number = cards.load(rt.alloc(), text.as_slice())?;
