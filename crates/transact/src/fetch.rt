@@ -15,9 +15,9 @@ use crate::started::Started;
 use apdu::{Body, Status};
 use application::Application;
 use manage::Told;
-use table_rows::Row;
 use sealing::Sealer;
 use session::{Event, Session};
+use table_rows::Row;
 
 impl<S: Sealer, A: Application> Parts<S, A> {
     // P1 + 2: a discard makes the session idle.

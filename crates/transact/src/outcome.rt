@@ -14,8 +14,8 @@ use crate::started::Started;
 use apdu::Status;
 use buffer::Buffer;
 use manage::Core;
-use table_rows::Row;
 use session::{Heard, Session};
+use table_rows::Row;
 use tables::Connection;
 
 // 92 and row × 2, one higher or not.

@@ -14,9 +14,9 @@ use crate::parts::Parts;
 use crate::started::Started;
 use apdu::{Body, Status};
 use application::Application;
-use table_rows::Row;
 use sealing::Sealer;
 use session::{Event, Heard};
+use table_rows::Row;
 
 impl<S: Sealer, A: Application> Parts<S, A> {
     // A block that was joined to those before: the last one completes the command, any other is kept.

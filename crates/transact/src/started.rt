@@ -1,6 +1,6 @@
 // A session that is started.
-use table_rows::Row;
 use session::Session;
+use table_rows::Row;
 use tables::Connection;
 
 // A row, its connection as the row holds it, and the connection's session as it is now.
