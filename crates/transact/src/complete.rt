@@ -46,12 +46,13 @@ pub fn complete<S: Sealer, A: Application>(
 {
     let limit = core.tables.transactions_limit(connection.master);
     let joined = session.joined();
-    let mut plain = fronted(joined);
-    match accept(sealer, connection, limit, &mut plain, joined.len()) {
+    let mut room = fronted(joined);
+    let plain = &mut room[..joined.len()];
+    match accept(sealer, connection, limit, plain) {
         Err(Refusal::Wrong) => fail(core, row, *connection, session.container),
         Err(Refusal::Spent) => remove(core, row),
         Ok(token) => {
-            let answer = token.settle(sealer, application, connection, &plain);
+            let answer = token.settle(sealer, application, connection, plain);
             core.tables
                 .put_connection(row, answered_row(*connection, *session, answer));
             taken(row, true)
