@@ -13,7 +13,7 @@ pub trait BlockCipher {
 
     ghost dec: { Self → List ℕ → List ℕ };
 
-    // The length of a block, where a contract has to name it.
+    // The length of a block, tied to `size`, which all users' clauses name: a ghost `BLOCK` there would read no plainer.
     fn block_len() -> usize
         ensures { result ≡ size };
 

@@ -17,6 +17,7 @@ fn chain<F: Fn(&mut [u8], &mut [u8])>(buf: &mut [u8], from: usize, n: usize, lin
         → buf.new ≡ take from buf.old ++ chained n out next (length (drop from buf.old) / n) (replicate n 0) (drop from buf.old) }
 {
     let mut before = [0u8; 16];
+    // Over `chunks_exact_mut` no proof knows what the buffer is after the loop.
     for at in (from..buf.len()).step_by(n) {
         link(&mut before[..n], &mut buf[at..at + n]);
     }

@@ -15,6 +15,7 @@ fn shifted_byte(byte: u8, behind: u8) -> u8
 fn shift_left(block: &[u8; BLOCK]) -> [u8; BLOCK]
     ensures { result ≡ shifted block.now }
 {
+    // By `array::from_fn` the proof leaves open what its sixteen calls give as a list.
     let mut shifted = *block;
     for (i, byte) in shifted.iter_mut().enumerate() {
         *byte = shifted_byte(*byte, block.get(i + 1).copied().unwrap_or(0));

@@ -18,7 +18,8 @@ pub fn is_room(k: usize, n: usize, key: &[u8], out: &[u8]) -> bool
     key.len() == k && out.len() == n
 }
 
-// Where the lengths fit, does the work on the bytes and answers 0. Else it answers 1, and the bytes stay.
+// Where the lengths fit, does the work on the bytes and answers 0. Else it answers 1, and the bytes stay. The numbers are the
+// C interface's, and are made here alone.
 pub fn answering<F: FnOnce(&mut [u8])>(fits: bool, bytes: &mut [u8], work: F) -> u32
     requires { fits ≡ true → FnOnceTakesAtMut F.FnOnce work bytes.old }
     ensures answer { result ≡ answer fits }

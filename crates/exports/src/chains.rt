@@ -28,7 +28,7 @@ pub extern "C" fn card_aes_cbc_decrypt(key: &[u8], buf: &mut [u8]) -> u32
     answering(fits, buf, |buf| cbc_decrypt(&aes_of(key), buf, 0))
 }
 
-// Encrypts whole blocks under triple DES with a key of 24 bytes.
+// Encrypts whole blocks under triple DES with a key of 24 bytes; in the closure itself the proof leaves open whose key it is.
 fn triple_forth(key: &[u8], buf: &mut [u8])
     requires { (length key.now ≡ 24) × (length buf.old % 8 ≡ 0) }
     ensures { buf.new ≡ cbc 8 (triple_encrypt key.now) buf.old }

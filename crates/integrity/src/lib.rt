@@ -13,7 +13,7 @@ pub trait Integrity {
 
     ghost check: { Self → List ℕ → List ℕ };
 
-    // The length of a check, where a contract has to name it.
+    // The length of a check, tied to `size`, which all users' clauses name: a ghost `LEN` there would read no plainer.
     fn tag_len() -> usize
         ensures { result ≡ size };
 

@@ -1,6 +1,8 @@
 // What a vector can be run on.
+use crate::fault::Fault;
 use numerals::read_hexadecimal;
 use sealing::Suite;
+use std::str::FromStr;
 
 // An algorithm by the name that a line begins with.
 #[derive(Clone, Copy)]
@@ -26,29 +28,31 @@ pub enum Algorithm {
     Open(Suite),
 }
 
-impl Algorithm {
+impl FromStr for Algorithm {
+    type Err = Fault;
+
     // The algorithm of that name.
-    pub fn named(name: &str) -> Option<Algorithm> {
-        match name {
-            "aes128" => Some(Algorithm::Aes),
-            "aes128-inverse" => Some(Algorithm::AesInverse),
-            "aes128-cbc" => Some(Algorithm::AesChain),
-            "aes128-cbc-inverse" => Some(Algorithm::AesChainInverse),
-            "triple-aes128" => Some(Algorithm::TripleAes),
-            "des" => Some(Algorithm::Des),
-            "des-inverse" => Some(Algorithm::DesInverse),
-            "triple-des" => Some(Algorithm::TripleDes),
-            "triple-des-inverse" => Some(Algorithm::TripleDesInverse),
-            "triple-des-cbc" => Some(Algorithm::TripleDesChain),
-            "crc32" => Some(Algorithm::Crc),
-            "cmac-aes128" => Some(Algorithm::Cmac),
-            "sha256" => Some(Algorithm::Sha),
-            "hmac-sha256" => Some(Algorithm::Hmac),
-            "expansion" => Some(Algorithm::Expansion),
-            "load" => Some(Algorithm::Load),
-            "object" => Some(Algorithm::Object),
-            _ => sealed(name),
-        }
+    fn from_str(name: &str) -> Result<Algorithm, Fault> {
+        Ok(match name {
+            "aes128" => Algorithm::Aes,
+            "aes128-inverse" => Algorithm::AesInverse,
+            "aes128-cbc" => Algorithm::AesChain,
+            "aes128-cbc-inverse" => Algorithm::AesChainInverse,
+            "triple-aes128" => Algorithm::TripleAes,
+            "des" => Algorithm::Des,
+            "des-inverse" => Algorithm::DesInverse,
+            "triple-des" => Algorithm::TripleDes,
+            "triple-des-inverse" => Algorithm::TripleDesInverse,
+            "triple-des-cbc" => Algorithm::TripleDesChain,
+            "crc32" => Algorithm::Crc,
+            "cmac-aes128" => Algorithm::Cmac,
+            "sha256" => Algorithm::Sha,
+            "hmac-sha256" => Algorithm::Hmac,
+            "expansion" => Algorithm::Expansion,
+            "load" => Algorithm::Load,
+            "object" => Algorithm::Object,
+            _ => sealed(name).ok_or(Fault::NotAVector)?,
+        })
     }
 }
 

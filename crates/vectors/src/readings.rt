@@ -4,13 +4,13 @@ use objects::join::{Unread, read_object};
 use personalise::read;
 use std::alloc::Global;
 
-// 00 where the text loads a key, else the number of its refusal.
+// 00 where the text loads a key, else the number of its refusal, as the vectors write it.
 pub fn load(heap: Global, text: &[u8]) -> Outcome {
     let number = match read(text) {
         Ok(_) => 0,
         Err(refusal) => refusal.into(),
     };
-    Ok(Some(vec![in heap; number]?))
+    Ok(vec![in heap; number]?)
 }
 
 // 00 and the value of a whole object; 01 where blocks are to come; 02 where it is bad.
@@ -24,5 +24,5 @@ pub fn object(heap: Global, bytes: &[u8]) -> Outcome {
         Err(Unread::Incomplete) => out.push(1)?,
         Err(Unread::Bad) => out.push(2)?,
     }
-    Ok(Some(out))
+    Ok(out)
 }

@@ -1,5 +1,8 @@
 // Running a vector: what its algorithm makes of its key and input.
+ghost use Rattle.std.specs.Prelude.{◌≡◌, ◌%◌, length};
+
 use crate::algorithm::Algorithm;
+use crate::fault::Fault;
 use crate::readings::{load, object};
 use crate::seals::{opened, sealed};
 use aes::Aes128;
@@ -10,131 +13,104 @@ use des::Des;
 use hmac::{expand, mac};
 use integrity::Integrity;
 use sha256::digest_of;
-use std::alloc::{AllocError, Global};
+use std::alloc::Global;
 
-// What comes out, or nothing where key or input have not the length that the algorithm takes.
-pub type Outcome = Result<Option<Vec<u8>>, AllocError>;
-
-// Which way a cipher is used.
-#[derive(Clone, Copy)]
-enum Way {
-    Encrypt,
-    Decrypt,
-}
+// What comes out, where key and input have the length that the algorithm takes.
+pub type Outcome = Result<Vec<u8>, Fault>;
 
 // The bytes as an array, where they are so many.
-pub fn exactly<const N: usize>(bytes: &[u8]) -> Option<&[u8; N]> {
-    if bytes.len() == N {
-        bytes.first_chunk()
-    } else {
-        None
-    }
+pub fn exactly<const N: usize>(bytes: &[u8]) -> Result<&[u8; N], Fault> {
+    bytes.as_array().ok_or(Fault::OtherLength)
 }
 
-fn aes(key: &[u8]) -> Option<Aes128> {
-    Some(Aes128::new(exactly(key)?))
+fn aes(key: &[u8]) -> Result<Aes128, Fault> {
+    Ok(Aes128::new(exactly(key)?))
 }
 
-fn triple_aes(key: &[u8]) -> Option<Triple<Aes128>> {
-    if key.len() != 48 {
-        return None;
-    }
-    Some(Triple::new(aes(&key[0..16])?, aes(&key[16..32])?, aes(&key[32..48])?))
+fn des(key: &[u8]) -> Result<Des, Fault> {
+    Ok(Des::new(exactly(key)?))
 }
 
-fn des(key: &[u8]) -> Option<Des> {
-    Some(Des::new(exactly(key)?))
+// Three ciphers in turn, each made by `single` of a third of the key.
+fn triple<C: BlockCipher + Drop, F: Fn(&[u8]) -> Result<C, Fault>>(
+    key: &[u8],
+    single: F,
+) -> Result<Triple<C>, Fault>
+    requires { F.IsAlwaysCallable single }
+{
+    let third = key.len() / 3;
+    let (first, rest) = key.split_at(third);
+    let (second, last) = rest.split_at(third);
+    Ok(Triple::new(single(first)?, single(second)?, single(last)?))
 }
 
-fn triple_des(key: &[u8]) -> Option<Triple<Des>> {
-    if key.len() != 24 {
-        return None;
-    }
-    Some(Triple::new(des(&key[0..8])?, des(&key[8..16])?, des(&key[16..24])?))
-}
-
-// One block.
-fn block<C: BlockCipher + Drop>(
+// One block, after `work`.
+fn block<C: BlockCipher + Drop, F: FnOnce(&C, &mut [u8])>(
     heap: Global,
-    cipher: Option<C>,
-    way: Way,
+    cipher: Result<C, Fault>,
     input: &[u8],
-) -> Outcome {
-    let Some(cipher) = cipher else {
-        return Ok(None);
-    };
+    work: F,
+) -> Outcome
+    requires { (c block : _) → length block.now ≡ C.size → F.pre work c block }
+{
+    let cipher = cipher?;
     if input.len() != C::block_len() {
-        return Ok(None);
+        return Err(Fault::OtherLength);
     }
     let mut out = input.to_vec(heap)?;
-    match way {
-        Way::Encrypt => cipher.encrypt(out.as_mut_slice()),
-        Way::Decrypt => cipher.decrypt(out.as_mut_slice()),
-    }
-    Ok(Some(out))
+    work(&cipher, out.as_mut_slice());
+    Ok(out)
 }
 
-// Whole blocks, chained from a block of zeros.
-fn chain<C: BlockCipher + Drop>(
+// Whole blocks, after `work`.
+fn blocks<C: BlockCipher + Drop, F: FnOnce(&C, &mut [u8])>(
     heap: Global,
-    cipher: Option<C>,
-    way: Way,
+    cipher: Result<C, Fault>,
     input: &[u8],
-) -> Outcome {
-    let Some(cipher) = cipher else {
-        return Ok(None);
-    };
+    work: F,
+) -> Outcome
+    requires { (c buf : _) → length buf.now % C.size ≡ 0 → F.pre work c buf }
+{
+    let cipher = cipher?;
     if input.len() % C::block_len() != 0 {
-        return Ok(None);
+        return Err(Fault::OtherLength);
     }
     let mut out = input.to_vec(heap)?;
-    match way {
-        Way::Encrypt => cbc_encrypt(&cipher, out.as_mut_slice(), 0),
-        Way::Decrypt => cbc_decrypt(&cipher, out.as_mut_slice(), 0),
-    }
-    Ok(Some(out))
+    work(&cipher, out.as_mut_slice());
+    Ok(out)
 }
 
 // A mechanism's check.
-fn check<I: Integrity + Drop>(heap: Global, mechanism: Option<I>, input: &[u8]) -> Outcome {
-    let Some(mechanism) = mechanism else {
-        return Ok(None);
-    };
+fn check<I: Integrity + Drop>(heap: Global, mechanism: I, input: &[u8]) -> Outcome {
     let mut out = vec![in heap; 0u8; I::tag_len()]?;
     mechanism.write_check(input, out.as_mut_slice());
-    Ok(Some(out))
-}
-
-fn cmac(key: &[u8]) -> Option<Cmac<Aes128>> {
-    Some(Cmac::new(aes(key)?))
-}
-
-fn expansion(heap: Global, key: &[u8], seed: &[u8]) -> Outcome {
-    copied(heap, &expand(key, &[seed]))
+    Ok(out)
 }
 
 fn copied(heap: Global, bytes: &[u8]) -> Outcome {
-    Ok(Some(bytes.to_vec(heap)?))
+    Ok(bytes.to_vec(heap)?)
 }
 
 // What the algorithm makes of key and input.
 pub fn run(heap: Global, algorithm: Algorithm, key: &[u8], input: &[u8]) -> Outcome {
     match algorithm {
-        Algorithm::Aes => block(heap, aes(key), Way::Encrypt, input),
-        Algorithm::AesInverse => block(heap, aes(key), Way::Decrypt, input),
-        Algorithm::AesChain => chain(heap, aes(key), Way::Encrypt, input),
-        Algorithm::AesChainInverse => chain(heap, aes(key), Way::Decrypt, input),
-        Algorithm::TripleAes => block(heap, triple_aes(key), Way::Encrypt, input),
-        Algorithm::Des => block(heap, des(key), Way::Encrypt, input),
-        Algorithm::DesInverse => block(heap, des(key), Way::Decrypt, input),
-        Algorithm::TripleDes => block(heap, triple_des(key), Way::Encrypt, input),
-        Algorithm::TripleDesInverse => block(heap, triple_des(key), Way::Decrypt, input),
-        Algorithm::TripleDesChain => chain(heap, triple_des(key), Way::Encrypt, input),
-        Algorithm::Crc => check(heap, Some(Crc32), input),
-        Algorithm::Cmac => check(heap, cmac(key), input),
+        Algorithm::Aes => block(heap, aes(key), input, |c, b| c.encrypt(b)),
+        Algorithm::AesInverse => block(heap, aes(key), input, |c, b| c.decrypt(b)),
+        Algorithm::AesChain => blocks(heap, aes(key), input, |c, b| cbc_encrypt(c, b, 0)),
+        Algorithm::AesChainInverse => blocks(heap, aes(key), input, |c, b| cbc_decrypt(c, b, 0)),
+        Algorithm::TripleAes => block(heap, triple(key, aes), input, |c, b| c.encrypt(b)),
+        Algorithm::Des => block(heap, des(key), input, |c, b| c.encrypt(b)),
+        Algorithm::DesInverse => block(heap, des(key), input, |c, b| c.decrypt(b)),
+        Algorithm::TripleDes => block(heap, triple(key, des), input, |c, b| c.encrypt(b)),
+        Algorithm::TripleDesInverse => block(heap, triple(key, des), input, |c, b| c.decrypt(b)),
+        Algorithm::TripleDesChain => {
+            blocks(heap, triple(key, des), input, |c, b| cbc_encrypt(c, b, 0))
+        }
+        Algorithm::Crc => check(heap, Crc32, input),
+        Algorithm::Cmac => check(heap, Cmac::new(aes(key)?), input),
         Algorithm::Sha => copied(heap, &digest_of(input)),
         Algorithm::Hmac => copied(heap, &mac(key, input)),
-        Algorithm::Expansion => expansion(heap, key, input),
+        Algorithm::Expansion => copied(heap, &expand(key, &[input])),
         Algorithm::Load => load(heap, input),
         Algorithm::Object => object(heap, input),
         Algorithm::Seal(suite) => sealed(heap, suite, key, input),

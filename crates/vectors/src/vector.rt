@@ -1,7 +1,8 @@
 // A vector as a line of text: an algorithm, its key, its input, and what must come out, in hexadecimal.
 use crate::algorithm::Algorithm;
+use crate::fault::Fault;
 use show::unhex;
-use std::alloc::{AllocError, Global};
+use std::alloc::Global;
 
 // What is run, and what must come out.
 #[derive(Drop)]
@@ -14,26 +15,18 @@ pub struct Vector<'a> {
 }
 
 // Bytes, or a byte string so many times over: 61*1000000.
-fn bytes(heap: Global, text: &str) -> Result<Option<Vec<u8>>, AllocError> {
+fn bytes(heap: Global, text: &str) -> Result<Vec<u8>, Fault> {
     let Some((once, times)) = text.split_once('*') else {
-        return unhex(heap, text);
+        return unhex(heap, text)?.ok_or(Fault::NotAVector);
     };
-    let Ok(times) = times.parse::<u32>() else {
-        return Ok(None);
-    };
-    let Some(once) = unhex(heap, once)? else {
-        return Ok(None);
-    };
-    let mut all = Vec::new(heap);
-    for _ in 0..times {
-        all.extend_from_slice(once.as_slice())?;
-    }
-    Ok(Some(all))
+    let times = times.parse::<u32>().ok().ok_or(Fault::NotAVector)?;
+    let once = unhex(heap, once)?.ok_or(Fault::NotAVector)?;
+    Ok(once.as_slice().repeat(heap, times as usize)?)
 }
 
 impl<'a> Vector<'a> {
-    // Reads a line of four words; nothing where it is not one.
-    pub fn read(heap: Global, line: &'a str) -> Result<Option<Vector<'a>>, AllocError> {
+    // Reads a line of four words.
+    pub fn read(heap: Global, line: &'a str) -> Result<Vector<'a>, Fault> {
         let mut words = line.split_whitespace();
         let (Some(name), Some(key), Some(input), Some(expected)) = (
             words.next(),
@@ -41,24 +34,14 @@ impl<'a> Vector<'a> {
             words.next(),
             words.next(),
         ) else {
-            return Ok(None);
+            return Err(Fault::NotAVector);
         };
-        let Some(algorithm) = Algorithm::named(name) else {
-            return Ok(None);
-        };
-        let (Some(key), Some(input), Some(expected)) = (
-            bytes(heap, key)?,
-            bytes(heap, input)?,
-            bytes(heap, expected)?,
-        ) else {
-            return Ok(None);
-        };
-        Ok(Some(Vector {
+        Ok(Vector {
             name,
-            algorithm,
-            key,
-            input,
-            expected,
-        }))
+            algorithm: name.parse()?,
+            key: bytes(heap, key)?,
+            input: bytes(heap, input)?,
+            expected: bytes(heap, expected)?,
+        })
     }
 }
