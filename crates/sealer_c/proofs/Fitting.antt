@@ -1,5 +1,5 @@
 -- What is asked for and fits is sealed, or opened.
-use Rattle.std.proofs.Common.{◌≡◌, ℕ, ◌<◌, ◌≤◌, Bool, true, false, cond, ◌&&◌, leb, List, length, Some, None, Option, Ok, Err, Result, refl, sym, ap, ◌∙◌, subst, leb-true}
+use Rattle.std.proofs.Common.{◌≡◌, ℕ, ◌<◌, ◌≤◌, Bool, true, false, cond, ◌&&◌, leb, List, length, Some, Ok, Err, Result, refl, sym, ap, ◌∙◌, subst, leb-true}
 use Rattle.std.proofs.lemmas.Bool.{and_parts}
 use Rattle.sealing.specs.Suites.{suite_of, direction_of}
 use Rattle.sealing.specs.Sealing.{text}
@@ -8,8 +8,8 @@ use Rattle.sealing.specs.declared.suite.Suite.{Suite}
 use Rattle.sealing.specs.declared.suite.Direction.{Direction}
 use Rattle.sealer.specs.Sealers.{real}
 use Rattle.sealer_c.specs.declared.refusal.Refusal.{Refusal}
-use Rattle.sealer_c.specs.declared.refusal.Refusal.TheVariants.{Unfit, Shut}
-use Rattle.sealer_c.specs.Calls.{upon, keys_of, body_fits, roomy, sealing, opening, opened_as, Writes}
+use Rattle.sealer_c.specs.declared.refusal.Refusal.TheVariants.{Unfit}
+use Rattle.sealer_c.specs.Calls.{keys_of, body_fits, roomy, sealing, opening, opened_as, Writes}
 
 module _ (c m : ℕ) (k keys : List ℕ) (u : Suite) (suite : suite_of c m ≡ Some u) (forty : keys_of k ≡ Some keys) where
   module _ (d n : ℕ) (b : List ℕ) (w : Direction) (way : direction_of d ≡ Some w) (before : List ℕ) where

@@ -1,6 +1,5 @@
 -- What the caller of an opening gets, from what the sealer says of the working copy.
-use Rattle.std.proofs.Common.{◌≡◌, ℕ, ◌+◌, ◌<◌, ◌≤◌, List, ◌++◌, length, take, drop, Some, None, Option, Ok, Err, sym, refl, ap, ◌∙◌, subst, arith, length-append}
-use Rattle.std.proofs.lemmas.List.{take_at}
+use Rattle.std.proofs.Common.{◌≡◌, ℕ, ◌+◌, ◌<◌, ◌≤◌, List, ◌++◌, length, take, drop, Some, None, Option, Ok, Err, sym, refl, ap, ◌∙◌, arith, length-append}
 use Rattle.byte_lists.specs.Bytes.{Block}
 use Rattle.byte_lists.specs.Numbers.{octets}
 use Rattle.byte_lists.proofs.Digits.{length_octets}
@@ -8,7 +7,7 @@ use Rattle.sealing.specs.Lent.{OpensTo}
 use Rattle.sealing.specs.Sealing.{Sealing, Faithful, Text, text}
 use Rattle.sealing.specs.declared.sealer.Opened.{Opened}
 use Rattle.sealing.specs.declared.suite.Suite.{Suite}
-use Rattle.sealer_c.specs.declared.refusal.Refusal.TheVariants.{Unfit, Shut}
+use Rattle.sealer_c.specs.declared.refusal.Refusal.TheVariants.{Shut}
 use Rattle.sealer_c.specs.Calls.{opened_as, plain, Writes}
 
 pub shut : (o : Option Text) (out : List ℕ) → o ≡ None → Writes (opened_as o) out out (Err Shut)

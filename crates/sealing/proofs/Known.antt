@@ -1,5 +1,5 @@
 -- What is known of a byte: the value that it stands for, or the one error.
-use Rattle.std.specs.Prelude.{◌≡◌, None, Some, Option, Result, Ok, Err}
+use Rattle.std.specs.Prelude.{◌≡◌, None, Some, Option, Result}
 use Rattle.std.specs.Option.{ok_or}
 use Rattle.std.specs.Result.{result_ok}
 use Rattle.std.proofs.Common.{refl, sym, ap, ◌∙◌}

@@ -9,6 +9,7 @@ pub fn same(a: &[u8], b: &[u8]) -> bool
         return false;
     }
     let mut difference = 0u8;
+    // (c) Not a fold over `zip`: that the items of its run are the pairs of both was left open.
     for (i, x) in a.iter().enumerate() {
         difference |= *x ^ b[i];
     }

@@ -9,9 +9,7 @@ impl Drop for WorkArea<'_> {
     fn drop(self)
         ensures { self.exit.0.now ≡ replicate (length self.entry.0.now) 0 }
     {
-        for byte in self.0.iter_mut() {
-            *byte = 0;
-        }
+        self.0.fill(0);
         let WorkArea(_) = self;
     }
 }

@@ -1,4 +1,4 @@
-use Rattle.std.proofs.Common.{◌≡◌, ℕ, ◌+◌, ◌-◌, ◌≤◌, List, length, take, drop, Some, None, ap, ◌∙◌, subst, arith, rules, length-drop}
+use Rattle.std.proofs.Common.{◌≡◌, ℕ, ◌+◌, ◌-◌, List, length, take, drop, Some, ap, ◌∙◌, subst, arith, rules, length-drop}
 use Rattle.std.proofs.lemmas.List.{length-take-le}
 use Rattle.byte_lists.specs.Bytes.{Block}
 use Rattle.byte_lists.proofs.Facts.{bytes_of}

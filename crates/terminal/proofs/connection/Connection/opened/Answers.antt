@@ -2,8 +2,8 @@ use Rattle.std.proofs.Common.{◌+◌, ◌≤◌, ◌&&◌, eqb, length, IfSome,
 use Rattle.std.specs.Option.{option_map}
 use Rattle.sealing.specs.declared.sealer.Opened.{Opened}
 use Rattle.sealing.specs.Lent.{OpensTo}
-use Rattle.terminal.specs.Answer.{is_reply, answer_in, body_in}
-use Rattle.terminal.proofs.Opening.{none_answers, some_answers, lies_within, within_if}
+use Rattle.terminal.specs.Answer.{is_reply, body_in}
+use Rattle.terminal.proofs.Opening.{some_answers, lies_within, within_if}
 use Rattle.terminal.proofs.connection.Connection.opened.Goals as goal
 
 pub returns : goal.returns
