@@ -59,12 +59,14 @@ fn answer_file(rt: &HostRuntime, path: &str) -> anyhow::Result<()> {
 
 // Runs every script.
 fn console(rt: &HostRuntime) -> anyhow::Result<()> {
-    let mut named = false;
-    for path in env::args(rt)?.skip(1) {
-        answer_file(rt, path.as_str())?;
-        named = true;
+    let mut paths = env::args(rt)?.skip(1).peekable();
+    if paths.peek().is_none() {
+        return answer_input(rt);
     }
-    if named { Ok(()) } else { answer_input(rt) }
+    for path in paths {
+        answer_file(rt, path.as_str())?;
+    }
+    Ok(())
 }
 
 fn main(rt: HostRuntime) -> anyhow::Result<()> {

@@ -2,7 +2,7 @@
 use crate::cards::FILL;
 use pair::{Answer, Done};
 use script::{Step, all_are};
-use show::joined;
+use show::JoinedPairs;
 use std::alloc::{AllocError, Global};
 
 // Whether a byte of the reply buffer was touched behind the reply, or at all where there is none.
@@ -11,18 +11,17 @@ fn touches_buffer(done: &Done) -> bool {
         Answer::Replied(n) => n,
         _ => 0,
     };
-    match done.buffer.as_slice().get(from..) {
-        Some(behind) => !all_are(behind, FILL),
-        None => true,
-    }
+    let behind = done.buffer.as_slice().get(from..);
+    behind.is_none_or(|behind| !all_are(behind, FILL))
 }
 
 // Whether the work area is not zero behind a reply, or was touched where there is none.
 fn touches_work(done: &Done) -> bool {
-    match done.answer {
-        Answer::Replied(_) => !all_are(done.work.as_slice(), 0),
-        _ => !all_are(done.work.as_slice(), FILL),
-    }
+    let left = match done.answer {
+        Answer::Replied(_) => 0,
+        _ => FILL,
+    };
+    !all_are(done.work.as_slice(), left)
 }
 
 // What one card answered.
@@ -32,7 +31,10 @@ fn side(heap: Global, done: &Done) -> Result<String, AllocError> {
         Answer::Powered => String::from_str(heap, "+"),
         Answer::Loaded(n) => format!(in heap; "{n}"),
         Answer::Refused(n) => format!(in heap; "!{n}"),
-        Answer::Replied(n) => joined(heap, done.buffer.as_slice().get(0..n).unwrap_or(&[])),
+        Answer::Replied(n) => {
+            let reply = JoinedPairs(done.buffer.as_slice().get(0..n).unwrap_or(&[]));
+            format!(in heap; "{reply}")
+        }
     }
 }
 
