@@ -8,7 +8,7 @@ mod shown;
 use anyhow::anyhow;
 use cards::run_section;
 use script::{Script, Section};
-use shown::answer_line;
+use shown::AnswerLine;
 use std::io::Read;
 use std::{env, fs};
 
@@ -22,7 +22,7 @@ fn answer_section(rt: &HostRuntime, section: &Section) -> anyhow::Result<()> {
         .zip(answers.left.iter())
         .zip(answers.right.iter())
     {
-        let line = answer_line(rt.alloc(), step, left, right)?;
+        let line = AnswerLine { step, left, right };
         println!(rt; "{line}")?;
     }
     Ok(())
