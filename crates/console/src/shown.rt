@@ -35,6 +35,7 @@ fn name(step: &Step) -> &'static str {
 }
 
 // What one card answered.
+#[derive(Clone, Copy)]
 struct Side<'a>(&'a Done);
 
 impl fmt::Display for Side<'_> {
@@ -54,6 +55,7 @@ impl fmt::Display for Side<'_> {
 }
 
 // The answer line of a call: a word, or both answers where they are more than a word or differ.
+#[derive(Clone, Copy)]
 pub struct AnswerLine<'a> {
     pub step: &'a Step,
     pub left: &'a Done,
