@@ -6,7 +6,7 @@ ghost use Rattle.std.specs.Prelude.{◌≤◌};
 // How many bytes the card's buffers can hold: as many as the longest sealed string has.
 pub const ROOM: usize = 288;
 
-// Up to `N` bytes. What stands behind the first `len` of them is free.
+// Up to `N` bytes. What stands behind the first `len` of them is free. No `impl Model`: `Copy` would need the free bytes back.
 #[derive(Clone, Copy)]
 pub struct Store<const N: usize> {
     bytes: [u8; N],

@@ -11,7 +11,7 @@ use std::alloc::{AllocError, Global};
 // What a host's memory holds before a call.
 pub const FILL: u8 = 0xA5;
 
-// What both cards did, call by call.
+// What both cards did, call by call. Not `pair::Ran`, which has a type of its own for each two applications.
 #[derive(Drop)]
 pub struct Answers {
     pub left: Vec<Done>,

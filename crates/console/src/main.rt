@@ -8,7 +8,7 @@ mod shown;
 use anyhow::anyhow;
 use cards::run_section;
 use script::{Script, Section};
-use shown::answer_line;
+use shown::AnswerLine;
 use std::io::Read;
 use std::{env, fs};
 
@@ -22,7 +22,7 @@ fn answer_section(rt: &HostRuntime, section: &Section) -> anyhow::Result<()> {
         .zip(answers.left.iter())
         .zip(answers.right.iter())
     {
-        let line = answer_line(rt.alloc(), step, left, right)?;
+        let line = AnswerLine { step, left, right };
         println!(rt; "{line}")?;
     }
     Ok(())
@@ -59,12 +59,14 @@ fn answer_file(rt: &HostRuntime, path: &str) -> anyhow::Result<()> {
 
 // Runs every script.
 fn console(rt: &HostRuntime) -> anyhow::Result<()> {
-    let mut named = false;
-    for path in env::args(rt)?.skip(1) {
-        answer_file(rt, path.as_str())?;
-        named = true;
+    let mut paths = env::args(rt)?.skip(1).peekable();
+    if paths.peek().is_none() {
+        return answer_input(rt);
     }
-    if named { Ok(()) } else { answer_input(rt) }
+    for path in paths {
+        answer_file(rt, path.as_str())?;
+    }
+    Ok(())
 }
 
 fn main(rt: HostRuntime) -> anyhow::Result<()> {

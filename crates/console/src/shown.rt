@@ -2,8 +2,8 @@
 use crate::cards::FILL;
 use pair::{Answer, Done};
 use script::{Step, all_are};
-use show::joined;
-use std::alloc::{AllocError, Global};
+use show::JoinedPairs;
+use std::fmt;
 
 // Whether a byte of the reply buffer was touched behind the reply, or at all where there is none.
 fn touches_buffer(done: &Done) -> bool {
@@ -11,29 +11,17 @@ fn touches_buffer(done: &Done) -> bool {
         Answer::Replied(n) => n,
         _ => 0,
     };
-    match done.buffer.as_slice().get(from..) {
-        Some(behind) => !all_are(behind, FILL),
-        None => true,
-    }
+    let behind = done.buffer.as_slice().get(from..);
+    behind.is_none_or(|behind| !all_are(behind, FILL))
 }
 
 // Whether the work area is not zero behind a reply, or was touched where there is none.
 fn touches_work(done: &Done) -> bool {
-    match done.answer {
-        Answer::Replied(_) => !all_are(done.work.as_slice(), 0),
-        _ => !all_are(done.work.as_slice(), FILL),
-    }
-}
-
-// What one card answered.
-fn side(heap: Global, done: &Done) -> Result<String, AllocError> {
-    match done.answer {
-        Answer::NotTaken => String::from_str(heap, "-"),
-        Answer::Powered => String::from_str(heap, "+"),
-        Answer::Loaded(n) => format!(in heap; "{n}"),
-        Answer::Refused(n) => format!(in heap; "!{n}"),
-        Answer::Replied(n) => joined(heap, done.buffer.as_slice().get(0..n).unwrap_or(&[])),
-    }
+    let left = match done.answer {
+        Answer::Replied(_) => 0,
+        _ => FILL,
+    };
+    !all_are(done.work.as_slice(), left)
 }
 
 // What a call is named in its line.
@@ -46,35 +34,57 @@ fn name(step: &Step) -> &'static str {
     }
 }
 
-// The line where the cards answer a call with more than a word, or otherwise than each other.
-fn both(heap: Global, step: &Step, left: &Done, right: &Done) -> Result<String, AllocError> {
-    let name = name(step);
-    let buffer = if touches_buffer(left) || touches_buffer(right) {
-        " BUFFER"
-    } else {
-        ""
-    };
-    let work = if touches_work(left) || touches_work(right) {
-        " WORK"
-    } else {
-        ""
-    };
-    let left = side(heap, left)?;
-    let right = side(heap, right)?;
-    format!(in heap; "{name} {left} {right}{buffer}{work}")
+// What one card answered.
+#[derive(Clone, Copy)]
+struct Side<'a>(&'a Done);
+
+impl fmt::Display for Side<'_> {
+    fn fmt<W: fmt::Write>(&self, f: &mut fmt::Formatter<W>) -> fmt::Result {
+        let done = self.0;
+        match done.answer {
+            Answer::NotTaken => f.write_str("-"),
+            Answer::Powered => f.write_str("+"),
+            Answer::Loaded(n) => write!(f, "{n}"),
+            Answer::Refused(n) => write!(f, "!{n}"),
+            Answer::Replied(n) => {
+                let reply = JoinedPairs(done.buffer.as_slice().get(0..n).unwrap_or(&[]));
+                write!(f, "{reply}")
+            }
+        }
+    }
 }
 
-// The answer line of a call.
-pub fn answer_line(
-    heap: Global,
-    step: &Step,
-    left: &Done,
-    right: &Done,
-) -> Result<String, AllocError> {
-    match (left.answer, right.answer) {
-        (Answer::NotTaken, Answer::NotTaken) => String::from_str(heap, "not taken"),
-        (Answer::Powered, Answer::Powered) => String::from_str(heap, name(step)),
-        (Answer::Loaded(n), Answer::Loaded(m)) if n == m => format!(in heap; "load {n}"),
-        _ => both(heap, step, left, right),
+// The answer line of a call: a word, or both answers where they are more than a word or differ.
+#[derive(Clone, Copy)]
+pub struct AnswerLine<'a> {
+    pub step: &'a Step,
+    pub left: &'a Done,
+    pub right: &'a Done,
+}
+
+impl AnswerLine<'_> {
+    // Both answers, and what was touched.
+    fn both<W: fmt::Write>(&self, f: &mut fmt::Formatter<W>) -> fmt::Result {
+        let (name, left, right) = (name(self.step), self.left, self.right);
+        let (left_side, right_side) = (Side(left), Side(right));
+        write!(f, "{name} {left_side} {right_side}")?;
+        if touches_buffer(left) || touches_buffer(right) {
+            f.write_str(" BUFFER")?;
+        }
+        if touches_work(left) || touches_work(right) {
+            f.write_str(" WORK")?;
+        }
+        Ok(())
+    }
+}
+
+impl fmt::Display for AnswerLine<'_> {
+    fn fmt<W: fmt::Write>(&self, f: &mut fmt::Formatter<W>) -> fmt::Result {
+        match (self.left.answer, self.right.answer) {
+            (Answer::NotTaken, Answer::NotTaken) => f.write_str("not taken"),
+            (Answer::Powered, Answer::Powered) => f.write_str(name(self.step)),
+            (Answer::Loaded(n), Answer::Loaded(m)) if n == m => write!(f, "load {n}"),
+            _ => self.both(f),
+        }
     }
 }

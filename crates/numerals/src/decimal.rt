@@ -18,6 +18,7 @@ fn read_digits(text: &[u8], top: u64) -> Option<u64>
     ensures value { result ≡ upto top (digits 0 text.now) }
     ensures within { IfSome result (λ n. n ≤ top) }
 {
+    // Not by `try_fold`, which is no shorter.
     let mut value = 0;
     for c in text {
         value = with_digit(value, *c, top)?;

@@ -17,6 +17,7 @@ fn fill(text: &[u8], bytes: &mut [u8]) -> Option<()>
     requires { length text.now ≡ 2 * length bytes.old }
     ensures { when (is_some result) bytes.new ≡ unhex text.now }
 {
+    // By number: of a slice that is written through `zip` no proof learns what it holds.
     for (i, byte) in bytes.iter_mut().enumerate() {
         let high = digit_value(text[2 * i])?;
         let low = digit_value(text[2 * i + 1])?;

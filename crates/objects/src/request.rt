@@ -1,4 +1,5 @@
-//! The requests inside an object, each with its values by name.
+//! The requests inside an object, each with its values by name. They are read by name, not by `TryFrom`: nothing but the
+//! layout can be wrong, and `None` says so.
 ghost use Rattle.std.specs.Prelude.{◌≡◌, ◌≤◌, length, IfSome};
 ghost use Rattle.objects.specs.Asked.{asked_master, asked_connection, asked_start, asked_end, seen_master, seen_connection, seen_start, seen_end};
 
@@ -117,6 +118,7 @@ impl<'a> EndRequest<'a> {
         ensures asks { seen_end result ≡ asked_end value.now }
     {
         let mut reader = Reader::new(value);
+        // No `map`: the other arm leaves by `?` itself.
         let named = match reader.take_array(tag::MASTER) {
             Some(id) => Named::Master(id),
             None => Named::Connection(reader.take_array(tag::CONNECTION)?),

@@ -1,4 +1,4 @@
-//! The tags of the objects in requests.
+//! The tags of the objects in requests: bytes and no enum, since they are read, written and matched as bytes.
 
 /// The object that holds all the others.
 pub const OBJECT: u8 = 0x73;

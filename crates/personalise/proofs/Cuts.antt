@@ -1,39 +1,42 @@
 -- The first line, found from the left.
-use Rattle.std.proofs.Common.{◌≡◌, ℕ, ◌+◌, ◌-◌, ◌<◌, ◌≤◌, eqb, List, [], ◌∷◌, ◌++◌, length, get_or, take, drop, Some, None, sym, refl, ap, ◌∙◌}
+use Rattle.std.proofs.Common.{◌≡◌, ℕ, suc, ◌+◌, ◌-◌, ◌<◌, ◌≤◌, Bool, true, false, cond, not, eqb, ltb, List, [], ◌∷◌, length, take, drop, Some, None, Option, sym, refl, ap, ◌∙◌, subst, arith}
+use Rattle.std.specs.List.{position_or_len}
 use native.Mathlib.Nat.{sub-zero}
-use Rattle.std.proofs.lemmas.List.{at_drop_more, at_drop_all, take_more, append_assoc, append-nil, take_rest}
-use Rattle.std.proofs.lemmas.Bool.{cond-true, cond-false, eq-eqb, ne_eqb}
+use Rattle.std.proofs.lemmas.List.{take_rest}
+use Rattle.std.proofs.lemmas.Bool.{cond-true, cond-false, lt-ltb, le-ltb, ltb-false}
 use Rattle.personalise.specs.Lines.{in_front, lines_of, behind, value, passed, past, EndsAt}
 
--- Lines of which the first has begun with some bytes.
-abbrev pub begun : List ℕ → List (List ℕ) → List (List ℕ)
-begun xs [] = []
-begun xs (l ∷ ls) = (xs ++ l) ∷ ls
+-- The place of the first LF, if there is one.
+abbrev pub first_lf : List ℕ → ℕ
+first_lf text = position_or_len (λ c. eqb c 10) text
 
-pub begun_none : (ls : List (List ℕ)) → begun [] ls ≡ ls
-begun_none [] = refl
-begun_none (l ∷ ls) = refl
+abbrev placed : List ℕ → ℕ → Option ℕ
+placed text p = cond (ltb p (length text)) (Some p) None
 
-begun_more : (xs : List ℕ) (c : ℕ) (ls : List (List ℕ)) → begun xs (in_front c ls) ≡ begun (xs ++ (c ∷ [])) ls
-begun_more xs c [] = refl
-begun_more xs c (l ∷ ls) = ap (λ m. m ∷ ls) (sym (append_assoc xs (c ∷ []) l))
+here : (text : List ℕ) (p : ℕ) → p < length text → EndsAt text (Some p) → EndsAt text (placed text p)
+here text p l h = subst (EndsAt text) (sym (cond-true (ltb p (length text)) (Some p) None (lt-ltb p (length text) l))) h
 
--- A turn of the loop at i: the LF is there, or not yet.
-pub found_at : (text : List ℕ) (i : ℕ) → i < length text → get_or text i 0 ≡ 10 → begun (take i text) (lines_of (drop i text)) ≡ take i text ∷ lines_of (drop (i + 1) text)
-found_at text i h e =
-    let rest = lines_of (drop (i + 1) text) in
-    ap (begun (take i text)) (at_drop_more lines_of text i 0 h ∙ cond-true (eqb (get_or text i 0) 10) ([] ∷ rest) (in_front (get_or text i 0) rest) (eq-eqb (get_or text i 0) 10 e))
-    ∙ ap (λ l. l ∷ rest) (append-nil (take i text))
+nowhere : (text : List ℕ) (p : ℕ) → length text ≤ p → EndsAt text None → EndsAt text (placed text p)
+nowhere text p l h = subst (EndsAt text) (sym (cond-false (ltb p (length text)) (Some p) None (le-ltb p (length text) l))) h
 
-pub goes_on : (text : List ℕ) (i : ℕ) → i < length text → (get_or text i 0 ≡ 10 → ⊥) → begun (take i text) (lines_of (drop i text)) ≡ begun (take (i + 1) text) (lines_of (drop (i + 1) text))
-goes_on text i h n =
-    let rest = lines_of (drop (i + 1) text) in
-    ap (begun (take i text)) (at_drop_more lines_of text i 0 h ∙ cond-false (eqb (get_or text i 0) 10) ([] ∷ rest) (in_front (get_or text i 0) rest) (ne_eqb (get_or text i 0) 10 n))
-    ∙ begun_more (take i text) (get_or text i 0) rest
-    ∙ ap (λ xs. begun xs rest) (sym (take_more text i 0 h))
+-- A byte that is no LF goes in front of the first line, and that ends one place later.
+later : (c : ℕ) (cs : List ℕ) (p : ℕ) (t : Bool) → ltb p (length cs) ≡ t → EndsAt cs (cond t (Some p) None) → lines_of (c ∷ cs) ≡ in_front c (lines_of cs) → EndsAt (c ∷ cs) (placed (c ∷ cs) (1 + p))
+later c cs p true e h f =
+    let one : suc p ≡ 1 + p = omega arith in
+    let two : suc (p + 1) ≡ 1 + p + 1 = omega arith in
+    let l : 1 + p < length (c ∷ cs) = omega (arith, h.0) in
+    here (c ∷ cs) (1 + p) l (l, f ∙ ap (in_front c) h.1 ∙ (λ i. take (one i) (c ∷ cs) ∷ lines_of (drop (two i) (c ∷ cs))))
+later c cs p false e h f =
+    nowhere (c ∷ cs) (1 + p) (omega (arith, ltb-false p (length cs) e)) (f ∙ ap (in_front c) h)
 
-pub none_left : (text : List ℕ) (i : ℕ) → length text ≤ i → begun (take i text) (lines_of (drop i text)) ≡ []
-none_left text i h = at_drop_all (λ rest. begun (take i text) (lines_of rest)) text i h
+at_first : (c : ℕ) (cs : List ℕ) (t : Bool) → eqb c 10 ≡ t → EndsAt cs (placed cs (first_lf cs)) → EndsAt (c ∷ cs) (placed (c ∷ cs) (cond (not t) (1 + first_lf cs) 0))
+at_first c cs true e h =
+    here (c ∷ cs) 0 (omega arith) (omega arith, cond-true (eqb c 10) ([] ∷ lines_of cs) (in_front c (lines_of cs)) e)
+at_first c cs false e h = later c cs (first_lf cs) (ltb (first_lf cs) (length cs)) refl h (cond-false (eqb c 10) ([] ∷ lines_of cs) (in_front c (lines_of cs)) e)
+
+pub ends_at : (text : List ℕ) → EndsAt text (placed text (first_lf text))
+ends_at [] = refl
+ends_at (c ∷ cs) = at_first c cs (eqb c 10) refl (ends_at cs)
 
 -- The first line has another name, and stays.
 pub other_name : (name text : List ℕ) (i : ℕ) → EndsAt text (Some i) → None ≡ behind name (take (i - 0) text) → (None ≡ value name (lines_of text)) × (lines_of text ≡ past name (lines_of text))

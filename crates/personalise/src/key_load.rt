@@ -35,6 +35,7 @@ impl KeyLoad {
         if is_malformed(masters) || is_malformed(connections) || is_malformed(transactions) {
             return Err(Refusal::Malformed);
         }
+        // The casts lose nothing, by what is required; `try_from` would add refusals that cannot come.
         Ok(KeyLoad {
             reference,
             key,

@@ -15,7 +15,7 @@ use crate::reference::Reference;
 use crate::refusal::Refusal;
 use numerals::read_hexadecimal;
 
-// The key that a text loads, or why it is refused. Any bytes may be given.
+// The key that a text loads, or why it is refused. Any bytes may be given. No `TryFrom`: three facts are promised of it.
 pub fn read(text: &[u8]) -> Result<KeyLoad, Refusal>
     ensures meaning { answered result ≡ loading text.now }
     ensures written { IfOk result (λ k. Good (says k) × (text.now ≡ written (says k))) }
@@ -37,7 +37,7 @@ pub fn read(text: &[u8]) -> Result<KeyLoad, Refusal>
     keyed(reference, key, weak, masters, connections, transactions)
 }
 
-// The key, where its first three lines are there in their form.
+// The key, where its first three lines are there in their form. The limits are no struct: they are handed on once.
 fn keyed(
     reference: Option<Reference>,
     key: Option<[u8; 32]>,

@@ -48,10 +48,5 @@ fn value_of<'a>(line: &'a [u8], name: &[u8]) -> Option<&'a [u8]>
 fn line_end(text: &[u8]) -> Option<usize>
     ensures { EndsAt text.now result }
 {
-    for (i, c) in text.iter().enumerate() {
-        if *c == b'\n' {
-            return Some(i);
-        }
-    }
-    None
+    text.iter().position(|c| *c == b'\n')
 }

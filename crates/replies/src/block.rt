@@ -23,6 +23,7 @@ pub fn answer_block(whole: &[u8], size: u8, number: u8) -> Option<Block<'_>>
     ensures { option_map seen result ≡ cut_block size whole.now number }
 {
     let first = usize::from(number) * usize::from(size);
+    // Not by `get(first..)`, which gives an empty part at the very end.
     if first >= whole.len() {
         return None;
     }

@@ -47,6 +47,7 @@ pub enum Reply {
     Session(u8),
 }
 
+// No trait for the three `objects`: each is called by one arm alone.
 impl DiscoveryReply {
     fn objects(&self) -> Store<INSIDE>
         ensures { held result ≡ discovery_objects self.now }

@@ -1,4 +1,4 @@
-//! The tags of the objects that stand in replies alone.
+//! The tags of the objects that stand in replies alone: bytes, since they are written as bytes.
 
 /// A started session's byte.
 pub const SESSION: u8 = 0x53;

@@ -69,7 +69,7 @@ impl FromStr for Seals {
     }
 }
 
-// Whether cards require the channel.
+// Whether cards require the channel. A `bool`, as cards take it, has no `FromStr` of ours.
 fn channel_named(word: &str) -> Result<bool, NoSuchWord>
     ensures { MatchResult result (λ b. word.now ≡ channel_word b) (λ _. (b : Bool) → word.now ≢ channel_word b) }
 {

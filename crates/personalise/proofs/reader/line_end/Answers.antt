@@ -1,16 +1,11 @@
-use Rattle.std.proofs.Common.{sym, ◌∙◌, arith}
-use Rattle.personalise.specs.Lines.{lines_of}
-use Rattle.personalise.proofs.Cuts.{begun_none, found_at, goes_on, none_left}
+use Rattle.std.proofs.Common.{eqb, rules, tests, sym, subst}
+use Rattle.std.proofs.lemmas.Iterator.Search.{position_from_yields_List}
+use Rattle.std.proofs.lemmas.Iterator.{YieldsList-from_slice}
+use Rattle.personalise.specs.Lines.{EndsAt}
+use Rattle.personalise.proofs.Cuts.{ends_at}
 use Rattle.personalise.proofs.reader.line_end.Goals as goal
 
-pub loop-i-init : goal.loop-i-init
-loop-i-init c = begun_none (lines_of c.args.text.now)
-
-pub returns-then-c-eq10 : goal.returns-then-c-eq10
-returns-then-c-eq10 c = (omega arith, sym c.loop-i.invariant ∙ found_at c.args.text.now c.loop-i.i (omega arith) c.if-c-eq10.true)
-
-pub loop-i-preserved : goal.loop-i-preserved
-loop-i-preserved c = sym (goes_on c.args.text.now c.loop-i.i (omega arith) c.if-c-eq10.false) ∙ c.loop-i.invariant
-
 pub returns : goal.returns
-returns c = sym c.loop-i.invariant ∙ none_left c.args.text.now c.loop-i.i (omega arith)
+returns c =
+    let is = position_from_yields_List (λ x. eqb x 10) _ _ c.position.result c.position.ensures.ran (YieldsList-from_slice c.args.text.now c.iter.ensures.rest) (λ x b q k. search (rules, tests)) in
+    subst (EndsAt c.args.text.now) (sym is) (ends_at c.args.text.now)
