@@ -1,9 +1,9 @@
 // The two applications, command by command.
-use crate::fare::{Paid, TODAY};
-use anyhow::anyhow;
+use crate::TODAY;
+use anyhow::Context;
 use apdu::Status;
 use application::Application;
-use fares::FareCounter;
+use fares::{Fare, FareCounter};
 use records::RecordFile;
 use show::spaced;
 
@@ -14,18 +14,14 @@ fn show_command<A: Application>(
     command: &[u8],
 ) -> anyhow::Result<()> {
     let heap = rt.alloc();
-    let mut buffer = vec![in heap; 0u8; 258]?;
-    let len = application.run(command, buffer.as_mut_slice());
-    let Some(reply) = buffer.as_slice().get(0..len) else {
-        return Err(anyhow!("a reply longer than its buffer"));
-    };
-    let [.., sw1, sw2] = reply else {
-        return Err(anyhow!("a reply without a status word"));
-    };
+    let mut buffer = [0; 258];
+    let len = application.run(command, &mut buffer);
+    let reply = buffer.get(..len).context("a reply longer than its buffer")?;
+    let status = reply.last_chunk().context("a reply without a status word")?;
     let sent = spaced(heap, command)?;
     let came = spaced(heap, reply)?;
     println!(rt; "  > {sent}")?;
-    match Status::try_from([*sw1, *sw2]) {
+    match Status::try_from(*status) {
         Ok(status) => println!(rt; "  < {came}  {status}")?,
         Err(unknown) => println!(rt; "  < {came}  {unknown}")?,
     }
@@ -35,25 +31,17 @@ fn show_command<A: Application>(
 // Fares are appended, and the sum is asked for.
 pub fn show_counter(rt: &HostRuntime) -> anyhow::Result<()> {
     let mut counter = FareCounter::new();
-    show_command(rt, &mut counter, &TODAY.command())?;
-    show_command(
-        rt,
-        &mut counter,
-        &Paid {
-            class: 0,
-            amount: 250,
-        }
-        .command(),
-    )?;
-    show_command(
-        rt,
-        &mut counter,
-        &Paid {
-            class: 8,
-            amount: 1,
-        }
-        .command(),
-    )?;
+    let second = Fare {
+        class: 0,
+        amount: 250,
+    };
+    let refused = Fare {
+        class: 8,
+        amount: 1,
+    };
+    for fare in [TODAY, second, refused] {
+        show_command(rt, &mut counter, &fare.command())?;
+    }
     show_command(rt, &mut counter, &[0x00, 0xCA, 0x00, 0x00, 0x00])?;
     show_command(rt, &mut counter, &[0x00, 0xB2, 0x01, 0x00, 0x00])?;
     show_command(rt, &mut counter, &[0x00, 0xCA, 0x00])

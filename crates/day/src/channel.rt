@@ -1,6 +1,7 @@
 // The fare as a sealed command, under two suites.
-use crate::fare::{Paid, TODAY};
+use crate::TODAY;
 use anyhow::anyhow;
+use fares::Fare;
 use sealer::RealSealer;
 use sealing::{Cipher, Direction, Mechanism, Sealer, Suite, Text};
 use show::spaced;
@@ -23,10 +24,9 @@ fn show_opened(
     let Some(data) = body.get(5..10) else {
         return Err(anyhow!("a body without a fare"));
     };
-    let Some(paid) = Paid::read(data) else {
+    let Some(fare) = Fare::read(data) else {
         return Err(anyhow!("no fare came back"));
     };
-    let fare = paid.words(rt.alloc())?;
     println!(rt; "  opened: command {number}, a fare of {fare}")?;
     Ok(())
 }

@@ -1,5 +1,5 @@
 // The key's load: from the file that the first argument names, and two that are refused.
-use anyhow::anyhow;
+use anyhow::Context;
 use personalise::{KeyLoad, Refusal, read};
 use show::spaced;
 use std::{env, fs};
@@ -41,9 +41,7 @@ fn show_refusal(rt: &HostRuntime, refusal: Refusal) -> anyhow::Result<()> {
 pub fn show_key(rt: &HostRuntime) -> anyhow::Result<()> {
     let mut words = env::args(rt)?;
     let _program = words.next();
-    let Some(path) = words.next() else {
-        return Err(anyhow!("name the file of a key's load"));
-    };
+    let path = words.next().context("name the file of a key's load")?;
     let text = fs::read(rt, path.as_str())?;
     show_load(rt, text.as_slice())?;
     println!(rt; "  with nothing behind masters=")?;

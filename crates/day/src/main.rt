@@ -4,8 +4,15 @@
 mod applications;
 mod channel;
 mod cipher_text;
-mod fare;
 mod key;
+
+use fares::Fare;
+
+// The fare of this day.
+const TODAY: Fare = Fare {
+    class: 3,
+    amount: 300,
+};
 
 fn day(rt: &HostRuntime) -> anyhow::Result<()> {
     println!(rt; "The key")?;

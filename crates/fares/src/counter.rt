@@ -4,6 +4,7 @@ ghost use Rattle.std.specs.Prelude.{◌≤◌};
 use crate::fare::Fare;
 
 // Up to 32 fares, in the order in which they were appended.
+// No Model and no ArrayVec: the type is Copy, which neither can be where the places behind count are forgotten.
 #[derive(Clone, Copy)]
 pub struct FareCounter {
     pub(crate) fares: [Fare; 32],

@@ -9,6 +9,7 @@ use std::fmt;
 
 impl Fare {
     // The fare that the data of a command names; `None` where it names none.
+    // An Option and no TryFrom: there is one way to be none, and each caller has its own word for it.
     pub fn read(data: &[u8]) -> Option<Fare>
         ensures { result ≡ fare_in «data».now }
     {

@@ -32,6 +32,7 @@ impl RecordFile {
     }
 
     // The record with this number.
+    // A slice and no array: of an array in a record's place the proof had no fact on its length.
     pub(crate) fn record(&self, number: u8) -> Option<&[u8]>
         ensures bytes { option_map (λ r. r.now) result ≡ option_map (record_at (records_of self.now)) (placed number) }
         ensures len { IfSome result (λ r. length r.now ≡ 16) }
