@@ -77,12 +77,9 @@ fn seals(suite: Suite, keys: &[u8; 40], strings: &mut [Vec<u8>], answer: &mut [u
 
 // The sealer's keys of a channel.
 fn keys(channel: &Channel, case: &Case) -> [u8; 40] {
-    let mut area = [0; 64];
-    expand(
+    let area = expand(
         channel.master.secret(),
-        &channel.nonce,
-        &case.offer.nonce,
-        &mut area,
+        &[&channel.nonce, &case.offer.nonce],
     );
     let mut keys = [0; 40];
     keys.copy_from_slice(&area[16..56]);
