@@ -8,7 +8,7 @@ use card::Powered;
 use fares::FareCounter;
 use hmac::expand;
 use sealer::RealSealer;
-use sealing::{Direction, Sealer, Suite};
+use sealing::{Direction, Sealer, Suite, Text};
 use std::alloc::Global;
 use std::time::Instant;
 
@@ -64,12 +64,16 @@ fn ride(
 fn seals(suite: Suite, keys: &[u8; 40], strings: &mut [Vec<u8>], answer: &mut [u8; 288]) -> usize {
     let mut sum = 0usize;
     for string in strings {
-        let len = string.len();
-        let Some(opened) = RealSealer.open(suite, keys, string.as_mut_slice(), len) else {
+        let Some(opened) = RealSealer.open(suite, keys, string.as_mut_slice()) else {
             continue;
         };
         sum = sum.wrapping_add(opened.len);
-        let sealed = RealSealer.seal(suite, keys, Direction::Reply, opened.number, &KEPT, answer);
+        let reply = Text {
+            direction: Direction::Reply,
+            number: opened.number,
+            body: &KEPT,
+        };
+        let sealed = RealSealer.seal(suite, keys, reply, answer);
         sum = sum.wrapping_add(sealed);
     }
     sum
