@@ -43,8 +43,8 @@ fn confirm(connection: &Connection, request: &ConnectionRequest<'_>, random: &[u
     Reply::Connection(ConnectionReply {
         id: connection.id,
         nonce: nonce(random),
-        cipher: suite.cipher.byte(),
-        mechanism: suite.mechanism.byte(),
+        cipher: u8::from(suite.cipher),
+        mechanism: u8::from(suite.mechanism),
         mac: connection_mac(&connection.mac, request, random, suite),
     })
 }
@@ -71,7 +71,7 @@ fn connection_mac(
     code.update(&[ciphers, mechanisms]);
     code.update(&random[0..16]);
     code.update(&random[16..32]);
-    code.update(&[suite.cipher.byte(), suite.mechanism.byte()]);
+    code.update(&[u8::from(suite.cipher), u8::from(suite.mechanism)]);
     let whole = code.finish();
     sixteen(&whole[0..16])
 }

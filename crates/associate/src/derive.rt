@@ -69,7 +69,7 @@ fn material(master: &Master, random: &[u8], nonce: &[u8], area: &mut [u8])
     requires area { length area.old ≡ 64 }
     ensures { area.new ≡ material keyed (master_of master.now) random.now nonce.now }
 {
-    expand(&master.secret, &random[16..32], nonce, area);
+    area.copy_from_slice(&expand(&master.secret, &[&random[16..32], nonce]));
 }
 
 // The new connection under a master. Its keys are worked out in the area.

@@ -13,7 +13,7 @@ pub fn start_mac(key: &[u8], id: &[u8], container: u8, given: &[u8], area: &mut 
     requires { 64 ≤ length area.old }
     ensures { result ≡ passes (mac_of keyed key.now (id.now ++ container ∷ [])) given.now }
 {
-    is_code(&mac_joined(key, id, &[container], &[]), given, area)
+    is_code(&mac_joined(key, &[id, &[container]]), given, area)
 }
 
 // Passes the code of a termination: over the identifier.

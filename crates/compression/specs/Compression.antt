@@ -38,6 +38,11 @@ second_sum v = plus (Σ0 v.a) (maj v.a v.b v.c)
 unfoldable pub round_of : ℕ → ℕ → Eight → Eight
 round_of k w v = record { a = plus (first_sum k w v) (second_sum v); b = v.a; c = v.b; d = v.c; e = plus v.d (first_sum k w v); f = v.e; g = v.f; h = v.g }
 
+-- The first n rounds with the constants ks and the words ws.
+unfoldable pub rounds_with : ℕ → List ℕ → List ℕ → Eight → Eight
+rounds_with zero ks ws v = v
+rounds_with (suc t) ks ws v = round_of (slice_index ks t) (slice_index ws t) (rounds_with t ks ws v)
+
 -- The first n rounds over the schedule w.
 unfoldable pub rounds : ℕ → List ℕ → Eight → Eight
 rounds zero w v = v

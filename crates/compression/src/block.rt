@@ -1,45 +1,23 @@
 // One block into eight words.
-ghost use Rattle.std.specs.Prelude.{◌≡◌, ◌+◌, ◌<◌, ◌≤◌, length, take, slice_index};
-ghost use Rattle.compression.specs.Constants.{constants};
-ghost use Rattle.compression.specs.Compression.{word, words as parsed, scheduled, extended, first_sum, second_sum, round_of, rounds as turned, sums as added, compressed};
+ghost use Rattle.std.specs.Prelude.{◌≡◌, ◌<◌, ◌≤◌, take};
+ghost use Rattle.std.specs.List.{fold, zip};
+ghost use Rattle.compression.specs.Compression.{words as parsed, scheduled, extended, first_sum, second_sum, round_of, rounds_with, rounds as turned, sums as added, compressed};
 
 use crate::letters::Eight;
-use crate::tables::constant;
+use crate::tables::constants;
 use crate::words::{choose, lower_one, lower_zero, majority, upper_one, upper_zero};
-
-// The words of a schedule, before they are known.
-fn blank() -> [u32; 64]
-    ensures { length result ≡ 64 }
-{
-    [0; 64]
-}
-
-// The word `t` of a block, the highest byte first.
-fn word_at(block: &[u8], t: usize) -> u32
-    requires { (length block.now ≡ 64) × (t < 16) }
-    ensures { result ≡ word block.now t }
-{
-    u32::from_be_bytes([
-        block[4 * t],
-        block[4 * t + 1],
-        block[4 * t + 2],
-        block[4 * t + 3],
-    ])
-}
-
-// Writes the sixteen words of a block to the front of a schedule.
-fn parse(block: &[u8], w: &mut [u32])
-    requires { (length block.now ≡ 64) × (length w.old ≡ 64) }
+// Writes the sixteen words of a block to the front of a schedule, each of four bytes with the highest first.
+fn parse(block: &[u8; 64], w: &mut [u32; 64])
     ensures { take 16 w.new ≡ parsed 16 block.now }
 {
-    for t in 0..16usize {
-        w[t] = word_at(block, t);
+    for (t, four) in block.as_chunks().0.iter().enumerate() {
+        w[t] = u32::from_be_bytes(*four);
     }
 }
 
 // The word `t` of a schedule, from those before it.
-fn next_word(w: &[u32], t: usize) -> u32
-    requires { (16 ≤ t) × (t < length w.now) }
+fn next_word(w: &[u32; 64], t: usize) -> u32
+    requires { (16 ≤ t) × (t < 64) }
     ensures { result ≡ scheduled w.now t }
 {
     lower_one(w[t - 2])
@@ -48,13 +26,12 @@ fn next_word(w: &[u32], t: usize) -> u32
         .wrapping_add(w[t - 16])
 }
 
-// Writes the other 48 words of a schedule behind its first sixteen.
-fn extend(w: &mut [u32])
-    requires { length w.old ≡ 64 }
+// Writes the other 48 words of a schedule behind its first sixteen; each is made of four before it, named by their places.
+fn extend(w: &mut [u32; 64])
     ensures { w.new ≡ extended 48 (take 16 w.old) }
 {
-    for n in 0..48usize {
-        w[n + 16] = next_word(w, n + 16);
+    for t in 16..64usize {
+        w[t] = next_word(w, t);
     }
 }
 
@@ -93,39 +70,35 @@ fn round(k: u32, w: u32, v: Eight) -> Eight
     }
 }
 
-// The round `t` over a schedule.
-fn round_at(w: &[u32], t: usize, v: Eight) -> Eight
-    requires { (length w.now ≡ 64) × (t < 64) }
-    ensures { result ≡ round_of (slice_index constants t) (slice_index w.now t) v }
+// Eight rounds with their constants and words, after which each letter is where it was.
+fn eight_rounds(k: &[u32; 8], w: &[u32; 8], v: Eight) -> Eight
+    ensures { result ≡ rounds_with 8 k.now w.now v }
 {
-    round(constant(t), w[t], v)
+    let v = round(k[0], w[0], v);
+    let v = round(k[1], w[1], v);
+    let v = round(k[2], w[2], v);
+    let v = round(k[3], w[3], v);
+    let v = round(k[4], w[4], v);
+    let v = round(k[5], w[5], v);
+    let v = round(k[6], w[6], v);
+    round(k[7], w[7], v)
 }
 
-// Eight rounds from `t` on, after which each letter is where it was.
-fn eight_rounds(w: &[u32], t: usize, v: Eight) -> Eight
-    requires { (length w.now ≡ 64) × (t + 8 ≤ 64) }
-    ensures { (u : Eight) → v ≡ turned t w.now u → result ≡ turned (t + 8) w.now u }
+// The rounds over parts of eight, from the front.
+fn rounds_over(constants: &[[u32; 8]], words: &[[u32; 8]], v: Eight) -> Eight
+    ensures { result ≡ fold (λ x p. rounds_with 8 p.0 p.1 x) v (zip constants.now words.now) }
 {
-    let v = round_at(w, t, v);
-    let v = round_at(w, t + 1, v);
-    let v = round_at(w, t + 2, v);
-    let v = round_at(w, t + 3, v);
-    let v = round_at(w, t + 4, v);
-    let v = round_at(w, t + 5, v);
-    let v = round_at(w, t + 6, v);
-    round_at(w, t + 7, v)
+    constants
+        .iter()
+        .zip(words)
+        .fold(v, |x, (k, w)| eight_rounds(k, w, x))
 }
 
 // The 64 rounds over a schedule.
-fn rounds(w: &[u32], v: Eight) -> Eight
-    requires { length w.now ≡ 64 }
+fn rounds(w: &[u32; 64], v: Eight) -> Eight
     ensures { result ≡ turned 64 w.now v }
 {
-    let mut x = v;
-    for i in 0..8usize {
-        x = eight_rounds(w, 8 * i, x);
-    }
-    x
+    rounds_over(constants().as_chunks().0, w.as_chunks().0, v)
 }
 
 // The sums of eight words with eight others.
@@ -145,11 +118,10 @@ fn add(u: Eight, v: Eight) -> Eight
 }
 
 // The eight words after one more block of 64 bytes.
-pub fn compress(v: Eight, block: &[u8]) -> Eight
-    requires { length block.now ≡ 64 }
+pub fn compress(v: Eight, block: &[u8; 64]) -> Eight
     ensures { result ≡ compressed v block.now }
 {
-    let mut w = blank();
+    let mut w = [0; 64];
     parse(block, &mut w);
     extend(&mut w);
     add(v, rounds(&w, v))

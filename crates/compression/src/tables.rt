@@ -1,5 +1,5 @@
 // The constants of the rounds, and the words that a digest begins from.
-ghost use Rattle.std.specs.Prelude.{◌≡◌, ℕ, ◌<◌, length, slice_index};
+ghost use Rattle.std.specs.Prelude.{◌≡◌, ℕ, ◌<◌, slice_index};
 ghost use Rattle.compression.specs.Constants.{Fraction, primes, constants as table, beginnings};
 ghost use Rattle.compression.specs.Compression.{initial as begun};
 
@@ -72,13 +72,12 @@ const CONSTANTS: [u32; 64] = [
     0xc671_78f2,
 ];
 
-// The constant of round `t`: the first 32 bits of the fractional part of the cube root of the prime in that place.
-pub fn constant(t: usize) -> u32
-    requires { t < 64 }
-    ensures is { result ≡ slice_index table t }
-    ensures rule { Fraction 3 (slice_index primes t) result }
+// The constants of the 64 rounds: each is the first 32 bits of the fractional part of the cube root of the prime in its place.
+pub fn constants() -> &'static [u32; 64]
+    ensures is { result.now ≡ table }
+    ensures rule { (t : ℕ) → t < 64 → Fraction 3 (slice_index primes t) (slice_index result.now t) }
 {
-    CONSTANTS[t]
+    &CONSTANTS
 }
 
 // The words that a digest begins from: each is the first 32 bits of the fractional part of the square root of its prime.

@@ -2,26 +2,22 @@
 use crate::fare::{Paid, TODAY};
 use anyhow::anyhow;
 use sealer::RealSealer;
-use sealing::{Cipher, Direction, Mechanism, Sealer, Suite};
+use sealing::{Cipher, Direction, Mechanism, Sealer, Suite, Text};
 use show::spaced;
 
-// Opens the first bytes of the buffer, and shows the fare or the refusal.
+// Opens the string, and shows the fare or the refusal.
 fn show_opened(
     rt: &HostRuntime,
     suite: Suite,
     keys: &[u8; 40],
-    buffer: &mut [u8],
-    len: usize,
+    string: &mut [u8],
 ) -> anyhow::Result<()> {
-    if len > buffer.len() {
-        return Err(anyhow!("a string longer than its buffer"));
-    }
-    let Some(text) = RealSealer.open(suite, keys, buffer, len) else {
+    let Some(text) = RealSealer.open(suite, keys, string) else {
         println!(rt; "  refused: this is no text's sealing")?;
         return Ok(());
     };
     let number = text.number;
-    let Some(body) = buffer.get(text.at..text.at + text.len) else {
+    let Some(body) = string.get(text.at..text.at + text.len) else {
         return Err(anyhow!("a body outside its string"));
     };
     let Some(data) = body.get(5..10) else {
@@ -39,28 +35,23 @@ fn show_opened(
 fn show_suite(rt: &HostRuntime, name: &str, suite: Suite) -> anyhow::Result<()> {
     let heap = rt.alloc();
     let keys = *b"forty key bytes: 24 cipher, 16 mechanism";
-    let mut buffer = vec![in heap; 0u8; 288]?;
-    let len = RealSealer.seal(
-        suite,
-        &keys,
-        Direction::Command,
-        0,
-        &TODAY.command(),
-        buffer.as_mut_slice(),
-    );
-    let Some(string) = buffer.as_slice().get(0..len) else {
-        return Err(anyhow!("a string longer than its buffer"));
+    let text = Text {
+        direction: Direction::Command,
+        number: 0,
+        body: &TODAY.command(),
     };
-    let text = spaced(heap, string)?;
-    println!(rt; "  sealed with {name}: {text}")?;
-    let mut damaged = string.to_vec(heap)?;
+    let mut string = vec![in heap; 0u8; 288]?;
+    let len = RealSealer.seal(suite, &keys, text, string.as_mut_slice());
+    string.truncate(len);
+    let sealed = spaced(heap, string.as_slice())?;
+    println!(rt; "  sealed with {name}: {sealed}")?;
+    let mut damaged = string.as_slice().to_vec(heap)?;
     if let Some(byte) = damaged.as_mut_slice().get_mut(2) {
         *byte ^= 1;
     }
-    show_opened(rt, suite, &keys, buffer.as_mut_slice(), len)?;
+    show_opened(rt, suite, &keys, string.as_mut_slice())?;
     println!(rt; "  with one bit of the third byte changed")?;
-    let size = damaged.len();
-    show_opened(rt, suite, &keys, damaged.as_mut_slice(), size)
+    show_opened(rt, suite, &keys, damaged.as_mut_slice())
 }
 
 // The fare under AES with CMAC, and under three-key triple DES with CRC32.

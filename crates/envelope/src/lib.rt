@@ -1,52 +1,45 @@
 // Sealing and opening under any cipher and any mechanism.
 #![tactic(auto)]
 
-ghost use Rattle.std.specs.Prelude.{◌≡◌, ◌≤◌, length, take};
-ghost use Rattle.sealing.specs.Lent.{Seals, OpensTo};
-ghost use Rattle.sealing.specs.Sealing.{text};
+ghost use Rattle.std.specs.Prelude.{◌≡◌, ◌≤◌, length};
+ghost use Rattle.sealing.specs.Lent.{Seals, OpensTo, as_text};
 ghost use Rattle.envelope.specs.Envelope.{deciphered, enciphered};
 
 use cipher::{BlockCipher, cbc_decrypt, cbc_encrypt};
 use frame::{read_frame, write_frame};
 use integrity::Integrity;
-use sealing::{Direction, Opened};
+use sealing::{Opened, Text};
 
 // Writes the sealed string of a text at the start of `out`, leaves the rest, and answers the string's length.
 pub fn seal_under<C: BlockCipher, I: Integrity>(
     cipher: &C,
     mechanism: &I,
-    direction: Direction,
-    number: u64,
-    body: &[u8],
+    text: Text<'_>,
     out: &mut [u8],
 ) -> usize
-    requires least { 2 ≤ length body.now }
-    requires most { length body.now ≤ 261 }
-    requires room { 288 ≤ length out.old }
-    ensures { Seals (enciphered C.size (C.enc cipher.now) (I.check mechanism.now) (text direction number body.now)) out.old out.new result }
+    requires { 288 ≤ length out.old }
+    ensures { Seals (enciphered C.size (C.enc cipher.now) (I.check mechanism.now) (as_text text.entry)) out.old out.new result }
 {
-    let len = write_frame(mechanism, C::block_len(), direction, number, body, out);
+    let len = write_frame(mechanism, C::block_len(), text, out);
     cbc_encrypt(cipher, &mut out[0..len], 0);
     len
 }
 
-// Opens the string that is the first `len` bytes of the buffer, in place; where it does not open, it is as it was.
+// Opens the string in place; where it does not open, it is as it was.
 pub fn open_under<C: BlockCipher, I: Integrity>(
     cipher: &C,
     mechanism: &I,
-    buffer: &mut [u8],
-    len: usize,
+    string: &mut [u8],
 ) -> Option<Opened>
-    requires { len ≤ length buffer.old }
-    ensures { OpensTo (deciphered C.size I.size (C.dec cipher.now) (I.check mechanism.now) (take len buffer.old)) len buffer.old buffer.new result }
+    ensures { OpensTo (deciphered C.size I.size (C.dec cipher.now) (I.check mechanism.now) string.old) string.old string.new result }
 {
-    if len % C::block_len() != 0 {
+    if string.len() % C::block_len() != 0 {
         return None;
     }
-    cbc_decrypt(cipher, &mut buffer[0..len], 0);
-    let Some(opened) = read_frame(mechanism, C::block_len(), &buffer[0..len]) else {
-        cbc_encrypt(cipher, &mut buffer[0..len], 0);
-        return None;
-    };
-    Some(opened)
+    cbc_decrypt(cipher, string, 0);
+    let opened = read_frame(mechanism, C::block_len(), string);
+    if opened.is_none() {
+        cbc_encrypt(cipher, string, 0);
+    }
+    opened
 }

@@ -1,5 +1,4 @@
 pub mod Parts
-pub mod Blank
 pub mod Filled
 pub mod Tested
 pub mod Laws

@@ -1,5 +1,6 @@
 -- The frame of a text: direction, number, length and body, the check over these, and the fewest zeros that fill whole blocks.
-use Rattle.std.specs.Prelude.{ℕ, ◌+◌, ◌-◌, ◌%◌, Bool, true, cond, ◌&&◌, List, [], ◌∷◌, ◌++◌, length, take, drop, replicate, Some, None, Option, ◌==◌, nat_le, slice_index}
+use Rattle.std.specs.Prelude.{ℕ, ◌+◌, ◌-◌, ◌%◌, Bool, cond, ◌&&◌, List, ◌∷◌, ◌++◌, length, take, drop, replicate, Some, None, Option, ◌==◌, nat_le, slice_index}
+use Rattle.std.specs.List.{list_all}
 use Rattle.std.specs.Str.{bytes_eq}
 use Rattle.byte_lists.specs.Numbers.{octets, number}
 use Rattle.sealing.specs.Suites.{direction_byte, direction_of}
@@ -28,8 +29,7 @@ end_of p = 11 + stated p
 
 -- Whether all are zero.
 abbrev pub blank : List ℕ → Bool
-blank [] = true
-blank (x ∷ xs) = x == 0 && blank xs
+blank xs = list_all (λ x. x == 0) xs
 
 -- Whether bytes are laid out as a frame: a body of 2 to 261 bytes is stated, the length is that of whole blocks and no block
 -- more, the check of c bytes is that over what stands before it, and the fill is zero.

@@ -12,12 +12,7 @@ use secret::same;
 fn is_blank(bytes: &[u8]) -> bool
     ensures { result ≡ blank bytes.now }
 {
-    for b in bytes {
-        if *b != 0 {
-            return false;
-        }
-    }
-    true
+    bytes.iter().all(|b| *b == 0)
 }
 
 // So many bytes, and the fewest more that make whole blocks.
@@ -34,7 +29,7 @@ fn stated_len(frame: &[u8]) -> usize
     ensures is { result ≡ stated frame.now }
     ensures small { result < 65536 }
 {
-    u16::from_be_bytes([frame[9], frame[10]]) as usize
+    u16::from_be_bytes(*frame[9..11].as_array().unwrap()) as usize
 }
 
 // The number that a frame states.
@@ -42,9 +37,7 @@ fn stated_number(frame: &[u8]) -> u64
     requires { 11 ≤ length frame.now }
     ensures { result ≡ number (take 8 (drop 1 frame.now)) }
 {
-    u64::from_be_bytes([
-        frame[1], frame[2], frame[3], frame[4], frame[5], frame[6], frame[7], frame[8],
-    ])
+    u64::from_be_bytes(*frame[1..9].as_array().unwrap())
 }
 
 // Whether the check behind the byte `end` is the one over what stands before it.
@@ -67,15 +60,13 @@ fn is_framed<I: Integrity>(mechanism: &I, block: usize, frame: &[u8]) -> bool
         return false;
     }
     let len = stated_len(frame);
-    if len < 2 || len > 261 {
-        return false;
-    }
     let end = 11 + len;
     let tag = I::tag_len();
-    if frame.len() != in_blocks(end + tag, block) {
-        return false;
-    }
-    is_checked(mechanism, frame, end) && is_blank(&frame[end + tag..])
+    2 <= len
+        && len <= 261
+        && frame.len() == in_blocks(end + tag, block)
+        && is_checked(mechanism, frame, end)
+        && is_blank(&frame[end + tag..])
 }
 
 // The text that a frame holds, where the bytes are one: its head, and where its body stands.
@@ -86,7 +77,7 @@ pub fn read_frame<I: Integrity>(mechanism: &I, block: usize, frame: &[u8]) -> Op
     if !is_framed(mechanism, block, frame) {
         return None;
     }
-    let direction = Direction::of(frame[0])?;
+    let direction = Direction::try_from(frame[0]).ok()?;
     Some(Opened {
         direction,
         number: stated_number(frame),

@@ -1,10 +1,18 @@
 // A code in progress, and whole codes.
-ghost use Rattle.std.specs.Prelude.{◌≡◌, ℕ, List, [], ◌++◌};
+ghost use Rattle.std.specs.Prelude.{◌≡◌, ℕ, List, [], ◌++◌, replicate};
+ghost use Rattle.std.specs.List.{flat_map};
+ghost use Rattle.byte_lists.specs.Bytes.{xors};
+ghost use Rattle.sha256.specs.Took.{Took};
 ghost use Rattle.hmac.specs.Hmac.{hmac};
 ghost use Rattle.hmac.specs.Keyed.{Keyed};
 
-use crate::keys::{block_key_of, inner_of, outer_of};
+use crate::keys::{block_key_of, masked};
 use sha256::Sha256;
+
+// The bytes that a key is joined with, for the inner and for the outer digest.
+const IPAD: u8 = 0x36;
+
+const OPAD: u8 = 0x5c;
 
 // The two digests of a code, each begun with the key.
 #[derive(Clone, Copy)]
@@ -13,17 +21,25 @@ pub struct Hmac {
     outer: Sha256,
 }
 
+// A digest that has taken a key joined with this byte.
+fn begun(byte: u8, key: &[u8; 64]) -> Sha256
+    ensures { Took result (xors (replicate 64 byte) key.now) }
+{
+    let mut digest = Sha256::new();
+    digest.update(&masked(byte, key));
+    digest
+}
+
 impl Hmac {
     // The code under a key of any length, with nothing taken yet.
     pub fn new(key: &[u8]) -> Hmac
         ensures { Keyed result key.now [] }
     {
         let block = block_key_of(key);
-        let mut inner = Sha256::new();
-        inner.update(&inner_of(&block));
-        let mut outer = Sha256::new();
-        outer.update(&outer_of(&block));
-        Hmac { inner, outer }
+        Hmac {
+            inner: begun(IPAD, &block),
+            outer: begun(OPAD, &block),
+        }
     }
 
     // Takes the bytes of a part behind those taken before.
@@ -31,6 +47,15 @@ impl Hmac {
         ensures { (key message : List ℕ) → Keyed self.old key message → Keyed self.new key (message ++ part.now) }
     {
         self.inner.update(part);
+    }
+
+    // Takes the bytes of parts, one behind the other.
+    pub fn update_all(&mut self, parts: &[&[u8]])
+        ensures { (key message : List ℕ) → Keyed self.old key message → Keyed self.new key (message ++ flat_map (λ part. part.now) parts.now) }
+    {
+        for part in parts {
+            self.update(part);
+        }
     }
 
     // The code of the message taken.
@@ -47,18 +72,14 @@ impl Hmac {
 pub fn mac(key: &[u8], message: &[u8]) -> [u8; 32]
     ensures { result ≡ hmac key.now message.now }
 {
-    let mut code = Hmac::new(key);
-    code.update(message);
-    code.finish()
+    mac_joined(key, &[message])
 }
 
-// The code of three parts, one behind the other.
-pub fn mac_joined(key: &[u8], first: &[u8], second: &[u8], third: &[u8]) -> [u8; 32]
-    ensures { result ≡ hmac key.now (first.now ++ (second.now ++ third.now)) }
+// The code of parts, one behind the other.
+pub fn mac_joined(key: &[u8], parts: &[&[u8]]) -> [u8; 32]
+    ensures { result ≡ hmac key.now (flat_map (λ part. part.now) parts.now) }
 {
     let mut code = Hmac::new(key);
-    code.update(first);
-    code.update(second);
-    code.update(third);
+    code.update_all(parts);
     code.finish()
 }

@@ -41,11 +41,10 @@ fn agreement(key: &[u8], channel: &Channel) -> [u8; 32] {
 // The codes of one association: of the master's secret, of the connection's keys, of its agreement and of its start. Whether
 // they are those that were sent.
 fn codes(key: &[u8; 32], channel: &Channel) -> bool {
-    let mut area = [0; 64];
     let secret = mac(key, channel.master.id());
-    expand(&secret, &channel.nonce, &AES.offer.nonce, &mut area);
+    let area = expand(&secret, &[&channel.nonce, &AES.offer.nonce]);
     let agreement = agreement(&area[0..16], channel);
-    let start = mac_joined(&area[0..16], channel.connection.id(), &[CONTAINER], &[]);
+    let start = mac_joined(&area[0..16], &[channel.connection.id(), &[CONTAINER]]);
     agreement[0..16] == channel.agreement[0..16] && start[0..16] == channel.start[0..16]
 }
 

@@ -8,7 +8,7 @@ use card::Powered;
 use fares::FareCounter;
 use hmac::expand;
 use sealer::RealSealer;
-use sealing::{Direction, Sealer, Suite};
+use sealing::{Direction, Sealer, Suite, Text};
 use std::alloc::Global;
 use std::time::Instant;
 
@@ -64,12 +64,16 @@ fn ride(
 fn seals(suite: Suite, keys: &[u8; 40], strings: &mut [Vec<u8>], answer: &mut [u8; 288]) -> usize {
     let mut sum = 0usize;
     for string in strings {
-        let len = string.len();
-        let Some(opened) = RealSealer.open(suite, keys, string.as_mut_slice(), len) else {
+        let Some(opened) = RealSealer.open(suite, keys, string.as_mut_slice()) else {
             continue;
         };
         sum = sum.wrapping_add(opened.len);
-        let sealed = RealSealer.seal(suite, keys, Direction::Reply, opened.number, &KEPT, answer);
+        let reply = Text {
+            direction: Direction::Reply,
+            number: opened.number,
+            body: &KEPT,
+        };
+        let sealed = RealSealer.seal(suite, keys, reply, answer);
         sum = sum.wrapping_add(sealed);
     }
     sum
@@ -77,12 +81,9 @@ fn seals(suite: Suite, keys: &[u8; 40], strings: &mut [Vec<u8>], answer: &mut [u
 
 // The sealer's keys of a channel.
 fn keys(channel: &Channel, case: &Case) -> [u8; 40] {
-    let mut area = [0; 64];
-    expand(
+    let area = expand(
         channel.master.secret(),
-        &channel.nonce,
-        &case.offer.nonce,
-        &mut area,
+        &[&channel.nonce, &case.offer.nonce],
     );
     let mut keys = [0; 40];
     keys.copy_from_slice(&area[16..56]);

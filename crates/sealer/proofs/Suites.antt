@@ -1,12 +1,10 @@
 -- What the code finds for one cipher is what its suite asks for.
-use Rattle.std.proofs.Common.{◌≡◌, ℕ, ◌≤◌, cond, List, length, take, Some, None, Option, sym, refl, ap, ◌∙◌, subst}
-use Rattle.std.proofs.lemmas.List.{length-take-le}
+use Rattle.std.proofs.Common.{◌≡◌, ℕ, cond, List, Some, None, Option, sym, refl, ap, ◌∙◌, subst}
 use Rattle.byte_lists.specs.Bytes.{Bytes, small}
-use Rattle.byte_lists.proofs.Facts.{bytes_take}
 use Rattle.byte_lists.proofs.Tables.{small_from}
 use Rattle.crc.specs.Crc.{crc}
 use Rattle.envelope.specs.Envelope.{enciphered, deciphered}
-use Rattle.envelope.proofs.Opening.{given}
+use Rattle.envelope.proofs.Opening.{found}
 use Rattle.frame.specs.Frame.{text_of, told}
 use Rattle.sealing.specs.Sealing.{Text}
 use Rattle.sealing.specs.Lent.{Seals, Opens, OpensTo}
@@ -24,22 +22,21 @@ module _ (s : Suite) (x : Cipher) (is : s.cipher ≡ x) (k : List ℕ) where
       let Q : Cipher → Type 0 = λ y. Seals (enciphered (block_of y) (enciphers y k) (checks s.mechanism k) t) before after r in
       subst Q (sym is) (subst P e h)
 
-  pub opened_by : (D : List ℕ → List ℕ) (len : ℕ) (before after : List ℕ) (r : Option Opened) → D ≡ deciphers x k
-      → OpensTo (deciphered (block_of x) (check_len s.mechanism) D (checks s.mechanism k) (take len before)) len before after r → Opens real s k len before after r
-  opened_by D len before after r e h =
-      let P : (List ℕ → List ℕ) → Type 0 = λ F. OpensTo (deciphered (block_of x) (check_len s.mechanism) F (checks s.mechanism k) (take len before)) len before after r in
-      let Q : Cipher → Type 0 = λ y. OpensTo (deciphered (block_of y) (check_len s.mechanism) (deciphers y k) (checks s.mechanism k) (take len before)) len before after r in
+  pub opened_by : (D : List ℕ → List ℕ) (before after : List ℕ) (r : Option Opened) → D ≡ deciphers x k
+      → OpensTo (deciphered (block_of x) (check_len s.mechanism) D (checks s.mechanism k) before) before after r → Opens real s k before after r
+  opened_by D before after r e h =
+      let P : (List ℕ → List ℕ) → Type 0 = λ F. OpensTo (deciphered (block_of x) (check_len s.mechanism) F (checks s.mechanism k) before) before after r in
+      let Q : Cipher → Type 0 = λ y. OpensTo (deciphered (block_of y) (check_len s.mechanism) (deciphers y k) (checks s.mechanism k) before) before after r in
       subst Q (sym is) (subst P e h)
 
 -- Reading a frame where it stands is opening it.
-module _ (len : ℕ) (buf : List ℕ) (within : len ≤ length buf) where
-  found : (o : Option Text) → o ≡ text_of 8 4 crc (take len buf) → OpensTo o len buf buf (told o)
-  found None e = refl
-  found (Some t) e = given 8 4 crc (take len buf) len buf buf refl (length-take-le len buf within) refl (Some t) _ e refl
+module _ (string : List ℕ) where
+  read : (o : Option Text) → o ≡ text_of 8 4 crc string → OpensTo o string string (told o)
+  read None e = refl
+  read (Some t) e = found 8 4 crc string string refl (Some t) _ e refl refl
 
-  pub read_is_opened : (s : Suite) (k : List ℕ) (r : Option Opened) → Bytes buf → r ≡ told (text_of 8 4 crc (take len buf)) → Opens bench s k len buf buf r
+  pub read_is_opened : (s : Suite) (k : List ℕ) (r : Option Opened) → Bytes string → r ≡ told (text_of 8 4 crc string) → Opens bench s k string string r
   read_is_opened s k r h e =
-      let o : Option Text = cond (small 256 (take len buf)) (text_of 8 4 crc (take len buf)) None in
-      let is : o ≡ text_of 8 4 crc (take len buf) = ap (λ w. cond w (text_of 8 4 crc (take len buf)) None) (small_from 256 (take len buf) (bytes_take len buf h)) in
-      let P : Option Opened → Type 0 = λ x. OpensTo o len buf buf x in
-      subst P (ap told is ∙ sym e) (found o is)
+      let o : Option Text = cond (small 256 string) (text_of 8 4 crc string) None in
+      let is : o ≡ text_of 8 4 crc string = ap (λ w. cond w (text_of 8 4 crc string) None) (small_from 256 string h) in
+      subst (OpensTo o string string) (ap told is ∙ sym e) (read o is)

@@ -4,7 +4,7 @@ ghost use Rattle.sealer.specs.Lawful.{bench_faithful};
 
 use crc::Crc32;
 use frame::{read_frame, write_frame};
-use sealing::{Direction, Opened, Sealer, Suite};
+use sealing::{Opened, Sealer, Suite, Text};
 
 // Checks with CRC32 and enciphers nothing, whatever the suite and the keys.
 #[derive(Clone, Copy)]
@@ -15,25 +15,11 @@ impl Sealer for BenchSealer {
 
     ghost faithful = { bench_faithful };
 
-    fn seal(
-        &self,
-        _suite: Suite,
-        _keys: &[u8; 40],
-        direction: Direction,
-        number: u64,
-        body: &[u8],
-        out: &mut [u8],
-    ) -> usize {
-        write_frame(&Crc32, 8, direction, number, body, out)
+    fn seal(&self, _suite: Suite, _keys: &[u8; 40], text: Text<'_>, out: &mut [u8]) -> usize {
+        write_frame(&Crc32, 8, text, out)
     }
 
-    fn open(
-        &self,
-        _suite: Suite,
-        _keys: &[u8; 40],
-        buffer: &mut [u8],
-        len: usize,
-    ) -> Option<Opened> {
-        read_frame(&Crc32, 8, &buffer[0..len])
+    fn open(&self, _suite: Suite, _keys: &[u8; 40], string: &mut [u8]) -> Option<Opened> {
+        read_frame(&Crc32, 8, string)
     }
 }

@@ -1,9 +1,8 @@
 -- What a call from C gives: bytes at the start of the caller's buffer and their count, or a refusal's number and nothing written.
 use Rattle.std.specs.Prelude.{◌≡◌, ℕ, ◌<◌, Bool, cond, ◌&&◌, List, ◌∷◌, ◌++◌, length, drop, Some, None, Ok, Err, Option, Result, ◌==◌, nat_le}
 use Rattle.byte_lists.specs.Numbers.{octets}
-use Rattle.sealing.specs.Suites.{cipher_of, mechanism_of, direction_byte, direction_of}
+use Rattle.sealing.specs.Suites.{suite_of, direction_byte, direction_of}
 use Rattle.sealing.specs.Sealing.{Text, text}
-use Rattle.sealing.specs.declared.suite.Suite.{Suite}
 use Rattle.sealer.specs.Sealers.{real}
 use Rattle.sealer_c.specs.declared.refusal.Refusal.{Refusal}
 use Rattle.sealer_c.specs.declared.refusal.Refusal.TheVariants.{Unfit, Shut}
@@ -18,10 +17,6 @@ refusal_number Shut = 8
 abbrev pub upon : {X Y : Type 0} → Option X → Y → (X → Y) → Y
 upon None e f = e
 upon (Some x) e f = f x
-
--- The suite of a cipher's byte and a mechanism's byte.
-abbrev pub suite_of : ℕ → ℕ → Option Suite
-suite_of c m = upon (cipher_of c) None (λ x. upon (mechanism_of m) None (λ y. Some (record { cipher = x; mechanism = y })))
 
 -- Key bytes that are 40.
 abbrev pub keys_of : List ℕ → Option (List ℕ)
@@ -72,3 +67,14 @@ left (Err e) before = before
 abbrev pub Told : Result (List ℕ) Refusal → ℕ → Type 0
 Told (Ok w) r = 8 < r
 Told (Err e) r = r ≡ refusal_number e
+
+-- The number that C gets: how many bytes were written, or the refusal's.
+abbrev pub number_of : Result ℕ Refusal → ℕ
+number_of (Ok n) = n
+number_of (Err e) = refusal_number e
+
+-- What was to be written stands in the buffer, and the result says so.
+pub record Writes (given : Result (List ℕ) Refusal) (before after : List ℕ) (r : Result ℕ Refusal) : Type 0 where
+  pub answer : number_of r ≡ answer given
+  pub buffer : after ≡ left given before
+  pub told : Told given (number_of r)

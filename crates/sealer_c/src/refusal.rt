@@ -1,9 +1,12 @@
 // Why a call is refused.
 ghost use Rattle.std.specs.Prelude.{◌≡◌};
 ghost use Rattle.sealer_c.specs.Calls.{refusal_number};
+ghost use Rattle.sealer_c.specs.declared.refusal.Refusal.TheVariants.{Unfit};
+
+use sealing::UnknownByte;
 
 // Why a call is refused.
-#[derive(Clone, Copy)]
+#[derive(Clone, Copy, PartialEq, Eq, Debug)]
 pub enum Refusal {
     // An unknown suite or direction, or a length that does not fit.
     Unfit,
@@ -11,14 +14,22 @@ pub enum Refusal {
     Shut,
 }
 
-impl Refusal {
-    // The number that the caller gets.
-    pub fn number(self) -> usize
-        ensures { result ≡ refusal_number self }
-    {
-        match self {
+// The number that the caller gets. (a) The numbers 7 and 8 are the C interface's.
+impl From<Refusal> for usize {
+    ghost from_gives = { λ refusal n. n ≡ refusal_number refusal };
+
+    fn from(refusal: Refusal) -> usize {
+        match refusal {
             Refusal::Unfit => 7,
             Refusal::Shut => 8,
         }
+    }
+}
+
+impl From<UnknownByte> for Refusal {
+    ghost from_gives = { λ _ refusal. refusal ≡ Unfit };
+
+    fn from(_byte: UnknownByte) -> Refusal {
+        Refusal::Unfit
     }
 }

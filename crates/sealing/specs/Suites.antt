@@ -1,9 +1,10 @@
--- The byte that stands for each cipher, mechanism and direction.
+-- The byte that stands for each cipher, mechanism and direction, and the suite of two bytes.
 use Rattle.std.specs.Prelude.{ℕ, cond, Some, None, Option, ◌==◌}
 use Rattle.sealing.specs.declared.suite.Cipher.{Cipher}
 use Rattle.sealing.specs.declared.suite.Cipher.TheVariants.{TwoKey, ThreeKey, Aes}
 use Rattle.sealing.specs.declared.suite.Mechanism.{Mechanism}
 use Rattle.sealing.specs.declared.suite.Mechanism.TheVariants.{Crc32, Cmac}
+use Rattle.sealing.specs.declared.suite.Suite.{Suite}
 use Rattle.sealing.specs.declared.suite.Direction.{Direction}
 use Rattle.sealing.specs.declared.suite.Direction.TheVariants.{Command, Reply}
 
@@ -31,3 +32,13 @@ direction_byte Reply = 0x01
 
 abbrev pub direction_of : ℕ → Option Direction
 direction_of b = cond (b == 0x00) (Some Command) (cond (b == 0x01) (Some Reply) None)
+
+-- The suite of a cipher and a mechanism, where there is one of each.
+abbrev pub suite_with : Option Cipher → Option Mechanism → Option Suite
+suite_with (Some c) (Some m) = Some (record { cipher = c; mechanism = m })
+suite_with (Some c) None = None
+suite_with None m = None
+
+-- The suite of a cipher's byte and a mechanism's byte.
+abbrev pub suite_of : ℕ → ℕ → Option Suite
+suite_of c m = suite_with (cipher_of c) (mechanism_of m)

@@ -3,6 +3,8 @@
 
 mod sealer;
 mod suite;
+mod text;
 
 pub use sealer::{Opened, Sealer, texts_stay_apart};
-pub use suite::{Cipher, Direction, Mechanism, Suite};
+pub use suite::{Cipher, Direction, Mechanism, Suite, UnknownByte};
+pub use text::Text;

@@ -1,9 +1,13 @@
 // Suites and directions, and the byte that stands for each.
-ghost use Rattle.std.specs.Prelude.{◌≡◌};
-ghost use Rattle.sealing.specs.Suites.{cipher_byte, cipher_of, mechanism_byte, mechanism_of, direction_byte, direction_of};
+ghost use Rattle.std.specs.Prelude.{◌≡◌, slice_index};
+ghost use Rattle.std.specs.Option.{ok_or};
+ghost use Rattle.sealing.specs.Suites.{cipher_byte, cipher_of, mechanism_byte, mechanism_of, direction_byte, direction_of, suite_of};
+
+use std::error::Error;
+use std::fmt;
 
 // The ciphers of a suite.
-#[derive(Clone, Copy)]
+#[derive(Clone, Copy, PartialEq, Eq, Debug)]
 pub enum Cipher {
     // Triple DES whose third key is its first.
     TwoKey,
@@ -14,7 +18,7 @@ pub enum Cipher {
 }
 
 // The integrity mechanisms of a suite.
-#[derive(Clone, Copy)]
+#[derive(Clone, Copy, PartialEq, Eq, Debug)]
 pub enum Mechanism {
     Crc32,
     // CMAC with AES-128.
@@ -22,86 +26,125 @@ pub enum Mechanism {
 }
 
 // A cipher and a mechanism.
-#[derive(Clone, Copy)]
+#[derive(Clone, Copy, PartialEq, Eq, Debug)]
 pub struct Suite {
     pub cipher: Cipher,
     pub mechanism: Mechanism,
 }
 
 // Which way a text goes.
-#[derive(Clone, Copy)]
+#[derive(Clone, Copy, PartialEq, Eq, Debug)]
 pub enum Direction {
     Command,
     Reply,
 }
 
-impl Cipher {
-    // The byte that stands for the cipher.
-    pub fn byte(self) -> u8
-        ensures { result ≡ cipher_byte self }
-    {
-        match self {
+// A byte that stands for no cipher, no mechanism or no direction.
+#[derive(Clone, Copy, PartialEq, Eq, Debug)]
+pub struct UnknownByte;
+
+impl fmt::Display for UnknownByte {
+    fn fmt<W: fmt::Write>(&self, f: &mut fmt::Formatter<W>) -> fmt::Result {
+        f.write_str("the byte stands for nothing that is known")
+    }
+}
+
+impl Error for UnknownByte {}
+
+// The byte that stands for the cipher.
+impl From<Cipher> for u8 {
+    ghost from_gives = { λ c b. b ≡ cipher_byte c };
+
+    fn from(cipher: Cipher) -> u8 {
+        match cipher {
             Cipher::TwoKey => 0x01,
             Cipher::ThreeKey => 0x02,
             Cipher::Aes => 0x04,
         }
     }
+}
 
-    // The cipher that a byte stands for.
-    pub fn of(byte: u8) -> Option<Cipher>
-        ensures { result ≡ cipher_of byte }
-    {
+// The cipher that a byte stands for.
+impl TryFrom<u8> for Cipher {
+    type Error = UnknownByte;
+
+    ghost try_from_gives = { λ b r. r ≡ ok_or (cipher_of b) (record {}) };
+
+    fn try_from(byte: u8) -> Result<Cipher, UnknownByte> {
         match byte {
-            0x01 => Some(Cipher::TwoKey),
-            0x02 => Some(Cipher::ThreeKey),
-            0x04 => Some(Cipher::Aes),
-            _ => None,
+            0x01 => Ok(Cipher::TwoKey),
+            0x02 => Ok(Cipher::ThreeKey),
+            0x04 => Ok(Cipher::Aes),
+            _ => Err(UnknownByte),
         }
     }
 }
 
-impl Mechanism {
-    // The byte that stands for the mechanism.
-    pub fn byte(self) -> u8
-        ensures { result ≡ mechanism_byte self }
-    {
-        match self {
+// The byte that stands for the mechanism.
+impl From<Mechanism> for u8 {
+    ghost from_gives = { λ m b. b ≡ mechanism_byte m };
+
+    fn from(mechanism: Mechanism) -> u8 {
+        match mechanism {
             Mechanism::Crc32 => 0x01,
             Mechanism::Cmac => 0x04,
         }
     }
+}
 
-    // The mechanism that a byte stands for.
-    pub fn of(byte: u8) -> Option<Mechanism>
-        ensures { result ≡ mechanism_of byte }
-    {
+// The mechanism that a byte stands for.
+impl TryFrom<u8> for Mechanism {
+    type Error = UnknownByte;
+
+    ghost try_from_gives = { λ b r. r ≡ ok_or (mechanism_of b) (record {}) };
+
+    fn try_from(byte: u8) -> Result<Mechanism, UnknownByte> {
         match byte {
-            0x01 => Some(Mechanism::Crc32),
-            0x04 => Some(Mechanism::Cmac),
-            _ => None,
+            0x01 => Ok(Mechanism::Crc32),
+            0x04 => Ok(Mechanism::Cmac),
+            _ => Err(UnknownByte),
         }
     }
 }
 
-impl Direction {
-    // The byte that stands for the direction.
-    pub fn byte(self) -> u8
-        ensures { result ≡ direction_byte self }
-    {
-        match self {
+// The byte that stands for the direction.
+impl From<Direction> for u8 {
+    ghost from_gives = { λ d b. b ≡ direction_byte d };
+
+    fn from(direction: Direction) -> u8 {
+        match direction {
             Direction::Command => 0x00,
             Direction::Reply => 0x01,
         }
     }
+}
 
-    // The direction that a byte stands for.
-    pub fn of(byte: u8) -> Option<Direction>
-        ensures { result ≡ direction_of byte }
-    {
+// The direction that a byte stands for.
+impl TryFrom<u8> for Direction {
+    type Error = UnknownByte;
+
+    ghost try_from_gives = { λ b r. r ≡ ok_or (direction_of b) (record {}) };
+
+    fn try_from(byte: u8) -> Result<Direction, UnknownByte> {
         match byte {
-            0x00 => Some(Direction::Command),
-            0x01 => Some(Direction::Reply),
-            _ => None,
+            0x00 => Ok(Direction::Command),
+            0x01 => Ok(Direction::Reply),
+            _ => Err(UnknownByte),
         }
+    }
+}
+
+// The suite of a cipher's byte and a mechanism's byte.
+impl TryFrom<[u8; 2]> for Suite {
+    type Error = UnknownByte;
+
+    ghost try_from_gives = { λ b r. r ≡ ok_or (suite_of (slice_index b 0) (slice_index b 1)) (record {}) };
+
+    fn try_from(bytes: [u8; 2]) -> Result<Suite, UnknownByte> {
+        let [cipher, mechanism] = bytes;
+        Ok(Suite {
+            cipher: Cipher::try_from(cipher)?,
+            mechanism: Mechanism::try_from(mechanism)?,
+        })
     }
 }

@@ -1,33 +1,23 @@
 // Words as bytes.
-ghost use Rattle.std.specs.Prelude.{◌≡◌, ◌*◌, length};
-ghost use Rattle.std.specs.List.{flat_map};
+ghost use Rattle.std.specs.Prelude.{◌≡◌};
 ghost use Rattle.byte_lists.specs.Numbers.{octets};
 ghost use Rattle.sha256.specs.Digest.{written};
 
 use compression::Eight;
 
-// The bytes of a digest, before they are known.
-fn blank() -> [u8; 32]
-    ensures { length result ≡ 32 }
+// A word as four bytes, the highest first.
+fn four_of(word: u32) -> [u8; 4]
+    ensures { result ≡ octets 4 word }
 {
-    [0; 32]
-}
-
-// Writes each word as four bytes, the highest first.
-fn put_words(words: &[u32], out: &mut [u8])
-    requires { length out.old ≡ 4 * length words.now }
-    ensures { out.new ≡ flat_map (octets 4) words.now }
-{
-    for i in 0..words.len() {
-        out[4 * i..4 * i + 4].copy_from_slice(&words[i].to_be_bytes());
-    }
+    word.to_be_bytes()
 }
 
 // Eight words as 32 bytes.
 pub fn bytes_of(v: Eight) -> [u8; 32]
     ensures { result ≡ written v }
 {
-    let mut out = blank();
-    put_words(&[v.a, v.b, v.c, v.d, v.e, v.f, v.g, v.h], &mut out);
+    let words: [u32; 8] = v.into();
+    let mut out = [0; 32];
+    out.copy_from_slice(words.map(four_of).as_flattened());
     out
 }

@@ -6,7 +6,7 @@ ghost use Rattle.sealing.specs.declared.suite.Direction.TheVariants.{Command};
 ghost use Rattle.terminal.specs.Answer.{is_reply, answer_in, body_in};
 
 use crate::connection::Connection;
-use sealing::{Direction, Opened, Sealer};
+use sealing::{Direction, Opened, Sealer, Text};
 use std::alloc::{AllocError, Global};
 
 // The most bytes that a sealed string has.
@@ -47,15 +47,13 @@ impl Connection {
         requires most { length body.now ≤ 261 }
         ensures { IfOk result (λ v. v.items ≡ S.Sealer.seals.sealed self.now.suite self.now.secrets.keys (text Command self.now.count body.now)) }
     {
-        let mut out = blank();
-        let len = sealer.seal(
-            self.suite,
-            &self.secrets.keys,
-            Direction::Command,
-            self.count,
+        let text = Text {
+            direction: Direction::Command,
+            number: self.count,
             body,
-            &mut out,
-        );
+        };
+        let mut out = blank();
+        let len = sealer.seal(self.suite, &self.secrets.keys, text, &mut out);
         Vec::from_slice(heap, &out[0..len])
     }
 
@@ -64,10 +62,7 @@ impl Connection {
         ensures body { option_map (body_in string.new) result ≡ answer_in number (S.Sealer.seals.opened self.now.suite self.now.secrets.keys string.old) }
         ensures within { IfSome result (λ o. o.at + o.len ≤ length string.new) }
     {
-        let len = string.len();
-        let Some(opened) = sealer.open(self.suite, &self.secrets.keys, string, len) else {
-            return None;
-        };
+        let opened = sealer.open(self.suite, &self.secrets.keys, string)?;
         answering(opened, number)
     }
 

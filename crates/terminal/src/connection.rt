@@ -10,7 +10,7 @@ use crate::master::Master;
 use crate::offer::Offer;
 use crate::secrets::{Secrets, derive};
 use replies::reply::ConnectionReply;
-use sealing::{Cipher, Mechanism, Suite};
+use sealing::Suite;
 use secret::same;
 
 // Its identifier, its suite and keys, and how many of its commands the card has accepted.
@@ -22,27 +22,12 @@ pub struct Connection {
     pub(crate) count: u64,
 }
 
-// The suite of a cipher's byte and a mechanism's.
-fn suite_of(cipher: u8, mechanism: u8) -> Option<Suite>
-    ensures { MatchOption result (Unnamed cipher mechanism) (λ s. Named s cipher mechanism) }
-{
-    let Some(cipher) = Cipher::of(cipher) else {
-        return None;
-    };
-    let Some(mechanism) = Mechanism::of(mechanism) else {
-        return None;
-    };
-    Some(Suite { cipher, mechanism })
-}
-
 impl Connection {
     // The connection that a card's reply makes under a master, where the reply names a suite and its MAC is right.
     pub fn agreed(master: &Master, offer: &Offer, reply: &ConnectionReply) -> Option<Connection>
         ensures { MatchOption result (Unagreed master.now offer.now reply.now) (λ c. Agreed master.now offer.now reply.now c) }
     {
-        let Some(suite) = suite_of(reply.cipher, reply.mechanism) else {
-            return None;
-        };
+        let suite = Suite::try_from([reply.cipher, reply.mechanism]).ok()?;
         let secrets = derive(master.secret(), &reply.nonce, &offer.nonce);
         let mac = agreement_mac(&secrets.mac, master.id(), offer, reply);
         if !same(&mac, &reply.mac) {

@@ -26,7 +26,7 @@ pub fn short_mac(key: &[u8], message: &[u8]) -> [u8; 16]
 pub fn start_mac(key: &[u8], id: &[u8], container: u8) -> [u8; 16]
     ensures { result ≡ mac_of key.now (id.now ++ container ∷ []) }
 {
-    cut(&mac_joined(key, id, &[container], &[]))
+    cut(&mac_joined(key, &[id, &[container]]))
 }
 
 // The MAC over all that both sides said of a connection.

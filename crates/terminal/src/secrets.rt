@@ -14,13 +14,6 @@ pub struct Secrets {
     pub keys: [u8; 40],
 }
 
-// Room for key material.
-fn blank() -> [u8; 64]
-    ensures { length result ≡ 64 }
-{
-    [0; 64]
-}
-
 // The first 16 bytes of the material.
 fn mac_part(material: &[u8]) -> [u8; 16]
     requires { length material.now ≡ 64 }
@@ -46,8 +39,7 @@ pub fn derive(secret: &[u8], card_nonce: &[u8], own_nonce: &[u8]) -> Secrets
     ensures mac { result.mac ≡ mac_key (material secret.now card_nonce.now own_nonce.now) }
     ensures keys { result.keys ≡ sealer_keys (material secret.now card_nonce.now own_nonce.now) }
 {
-    let mut area = blank();
-    expand(secret, card_nonce, own_nonce, &mut area);
+    let area = expand(secret, &[card_nonce, own_nonce]);
     Secrets {
         mac: mac_part(&area),
         keys: keys_part(&area),

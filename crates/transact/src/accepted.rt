@@ -1,5 +1,5 @@
 // Accepted commands, each settled by one sealed answer.
-ghost use Rattle.std.specs.Prelude.{◌≡◌, ◌+◌, ◌≤◌, length, take};
+ghost use Rattle.std.specs.Prelude.{◌≡◌, ◌+◌, ◌≤◌, length};
 ghost use Rattle.buffer.specs.Held.{held};
 ghost use Rattle.sealing.specs.Sealing.{text};
 ghost use Rattle.sealing.specs.declared.suite.Direction.TheVariants.{Reply as AsReply};
@@ -9,7 +9,7 @@ ghost use Rattle.tables.specs.View.{connection_of};
 
 use application::Application;
 use buffer::{Buffer, ROOM};
-use sealing::{Direction, Opened, Sealer};
+use sealing::{Direction, Opened, Sealer, Text};
 use tables::Connection;
 
 // An accepted command that is not answered yet: its number, and where its body stands in the opened text. It cannot be let
@@ -62,15 +62,13 @@ impl Accepted {
         let Accepted { number, at, len } = self;
         let mut reply = reply_room();
         let n = application.run(&plain[at..at + len], &mut reply);
-        let mut answer = answer_room();
-        let sealed = sealer.seal(
-            connection.suite,
-            &connection.keys,
-            Direction::Reply,
+        let text = Text {
+            direction: Direction::Reply,
             number,
-            &reply[..n],
-            &mut answer,
-        );
+            body: &reply[..n],
+        };
+        let mut answer = answer_room();
+        let sealed = sealer.seal(connection.suite, &connection.keys, text, &mut answer);
         Buffer::of(answer, sealed)
     }
 }
@@ -82,19 +80,16 @@ fn is_command(opened: &Opened, number: u64) -> bool
     matches!(opened.direction, Direction::Command) && opened.number == number && opened.len >= 4
 }
 
-// Opens joined blocks, the first `len` bytes of the text, in place, and accepts them where they are the connection's next
-// command and the limit lets it.
+// Opens joined blocks in place, and accepts them where they are the connection's next command and the limit lets it.
 pub fn accept<S: Sealer>(
     sealer: &S,
     connection: &Connection,
     limit: u64,
     plain: &mut [u8],
-    len: usize,
 ) -> Result<Accepted, Refusal>
-    requires { len ≤ length plain.old }
-    ensures { Judges (judged S.Sealer.seals (connection_of connection.now) limit (take len plain.old)) connection.now.count limit plain.new result }
+    ensures { Judges (judged S.Sealer.seals (connection_of connection.now) limit plain.old) connection.now.count limit plain.new result }
 {
-    let Some(opened) = sealer.open(connection.suite, &connection.keys, plain, len) else {
+    let Some(opened) = sealer.open(connection.suite, &connection.keys, plain) else {
         return Err(Refusal::Wrong);
     };
     if !is_command(&opened, connection.count) {

@@ -30,15 +30,10 @@ impl<S: Sealer, A: Application> Parts<S, A> {
             .tables
             .transactions_limit(started.connection.master);
         let joined = started.session.joined();
-        let mut plain = [0; ROOM];
-        plain[..joined.len()].copy_from_slice(joined);
-        match accept(
-            &self.sealer,
-            &started.connection,
-            limit,
-            &mut plain,
-            joined.len(),
-        ) {
+        let mut room = [0; ROOM];
+        let plain = &mut room[..joined.len()];
+        plain.copy_from_slice(joined);
+        match accept(&self.sealer, &started.connection, limit, plain) {
             Err(Refusal::Wrong) => started.fail(&mut self.core),
             Err(Refusal::Spent) => started.remove(&mut self.core),
             Ok(token) => {
@@ -46,7 +41,7 @@ impl<S: Sealer, A: Application> Parts<S, A> {
                     &self.sealer,
                     &mut self.application,
                     &started.connection,
-                    &plain,
+                    plain,
                 );
                 let held = started.answered(answer);
                 self.core.tables.put_connection(started.row, held);

@@ -1,6 +1,6 @@
 // What a vector can be run on.
 use numerals::read_hexadecimal;
-use sealing::{Cipher, Mechanism, Suite};
+use sealing::Suite;
 
 // An algorithm by the name that a line begins with.
 #[derive(Clone, Copy)]
@@ -68,7 +68,5 @@ fn suite_of(text: &str) -> Option<Suite> {
     if !read_hexadecimal(text.as_bytes(), &mut bytes) {
         return None;
     }
-    let cipher = Cipher::of(bytes[0])?;
-    let mechanism = Mechanism::of(bytes[1])?;
-    Some(Suite { cipher, mechanism })
+    Suite::try_from(bytes).ok()
 }

@@ -110,9 +110,7 @@ fn cmac(key: &[u8]) -> Option<Cmac<Aes128>> {
 }
 
 fn expansion(heap: Global, key: &[u8], seed: &[u8]) -> Outcome {
-    let mut out = vec![in heap; 0u8; 64]?;
-    expand(key, seed, &[], out.as_mut_slice());
-    Ok(Some(out))
+    copied(heap, &expand(key, &[seed]))
 }
 
 fn copied(heap: Global, bytes: &[u8]) -> Outcome {

@@ -1,6 +1,6 @@
-use Rattle.std.proofs.Common.{◌≡◌, ◌+◌, take}
+use Rattle.std.proofs.Common.{◌≡◌, ◌-◌, length, take}
 use Rattle.compression.specs.Compression.{extended}
 use Rattle.compression.proofs.block.extend.Given as goal
 
-abbrev pub invariant-loop-n : goal.invariant-loop-n
-invariant-loop-n l = take (l.n + 16) l.w ≡ extended l.n (take 16 l.initial.w)
+abbrev pub invariant-loop-t : goal.invariant-loop-t
+invariant-loop-t l = record { long : length l.w ≡ 64; so_far : take l.t l.w ≡ extended (l.t - 16) (take 16 l.initial.w) }

@@ -1,4 +1,4 @@
-use Rattle.std.proofs.Common.{[], sym, ap, ◌∙◌, subst}
+use Rattle.std.proofs.Common.{sym, ap, ◌∙◌, subst}
 use Rattle.std.proofs.lemmas.List.{append-nil}
 use Rattle.byte_lists.specs.Bytes.{xors}
 use Rattle.sha256.specs.Took.{Took}
@@ -9,8 +9,8 @@ pub returns : goal.returns
 unfolding inner_key outer_key
 returns c =
     let key = c.args.key.now in
-    let block = c.block_key_of-block.ensures.is in
+    let block = c.block_key_of-block.ensures in
     record {
-      within = subst (Took c.update.new.self) (c.inner_of.ensures ∙ ap (xors ipad) block ∙ sym (append-nil (inner_key key))) (c.update.ensures [] c.new-inner.ensures);
-      around = subst (Took c.update-2.new.self) (c.outer_of.ensures ∙ ap (xors opad) block) (c.update-2.ensures [] c.new-outer.ensures);
+      within = subst (Took c.begun.result) (ap (xors ipad) block ∙ sym (append-nil (inner_key key))) c.begun.ensures;
+      around = subst (Took c.begun-2.result) (ap (xors opad) block) c.begun-2.ensures;
     }

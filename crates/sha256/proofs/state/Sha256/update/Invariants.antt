@@ -1,9 +1,10 @@
-use Rattle.std.proofs.Common.{ℕ, ◌-◌, ◌≤◌, List, ◌++◌, length, take}
+use Rattle.std.proofs.Common.{◌≡◌, ℕ, List, ◌++◌, length}
 use Rattle.sha256.specs.Took.{Took}
 use Rattle.sha256.proofs.state.Sha256.update.Given as goal
 
-abbrev pub invariant-loop-at : goal.invariant-loop-at
-invariant-loop-at l = (l.at ≤ length l.part) × ((bytes : List ℕ) → Took l.initial.self bytes → Took l.self (bytes ++ take l.at l.part))
+-- What was taken stands before the rest of the part.
+abbrev pub invariant-loop-rest : goal.invariant-loop-rest
+invariant-loop-rest l = (bytes : List ℕ) → Took l.initial.self bytes → (front : List ℕ) × (front ++ l.rest ≡ l.part) × Took l.self (bytes ++ front)
 
-abbrev pub decreases-loop-at : goal.decreases-loop-at
-decreases-loop-at l = length l.part - l.at
+abbrev pub decreases-loop-rest : goal.decreases-loop-rest
+decreases-loop-rest l = length l.rest

@@ -1,8 +1,8 @@
 use Rattle.std.proofs.Common.{refl}
 use Rattle.compression.specs.Constants.{constants}
 use Rattle.compression.proofs.Rule.{constants_rule}
-use Rattle.compression.proofs.tables.constant.Goals as goal
+use Rattle.compression.proofs.tables.constants.Goals as goal
 
 pub returns : goal.returns
 unfolding constants
-returns c = record { is = refl; rule = constants_rule c.args.t c.requires }
+returns c = record { is = refl; rule = constants_rule }
