@@ -15,10 +15,10 @@ abbrev pub state_as : {M : Type 0} → Bool → Core → M → State M
 state_as powered c m = record { core = core_as powered c; answers = answers_of c.tables; contents = m }
 
 abbrev pub off_state : {S A M : Type 0} → (A → M) → Off S A → State M
-off_state f c = state_as false c.core (f c.application)
+off_state f c = state_as false c.parts.core (f c.parts.application)
 
 abbrev pub on_state : {S A M : Type 0} → (A → M) → Powered S A → State M
-on_state f c = state_as true c.core (f c.application)
+on_state f c = state_as true c.parts.core (f c.parts.application)
 
 abbrev pub outcome : {M : Type 0} → State M → Answer → Done M
 outcome s a = record { after = s; answer = a }
@@ -29,8 +29,8 @@ answered (Ok n) buffer = replied (take n buffer)
 answered (Err e) buffer = refused_host (host_number e)
 
 -- The refusal, if it is one.
-abbrev pub refusal_in : Result ℕ HostRefusal → Option HostRefusal
-refusal_in (Ok n) = None
+abbrev pub refusal_in : {X : Type 0} → Result X HostRefusal → Option HostRefusal
+refusal_in (Ok x) = None
 refusal_in (Err e) = Some e
 
 -- The host's memory after a command: behind the reply the buffer is as it was, and the work area is zero; a refusal touches

@@ -6,6 +6,7 @@ mod load;
 mod off;
 mod powered;
 mod refusal;
+mod words;
 
 pub use off::Off;
 pub use powered::Powered;

@@ -5,22 +5,12 @@ ghost use Rattle.law.specs.Calls.{loaded};
 ghost use Rattle.law.specs.Step.{does, loads};
 ghost use Rattle.tables.specs.View.{Keeps};
 ghost use Rattle.manage.specs.View.{core_as};
-ghost use Rattle.card.specs.Refusals.{load_number, refused_text};
+ghost use Rattle.card.specs.Refusals.{load_number};
 
 use crate::refusal::LoadRefusal;
 use manage::Core;
-use personalise::{Refusal, read};
+use personalise::read;
 use tables::Key;
-
-// The card's refusal of a text that gives no key.
-fn refused(refusal: Refusal) -> LoadRefusal
-    ensures { result ≡ refused_text refusal }
-{
-    match refusal {
-        Refusal::Malformed => LoadRefusal::Malformed,
-        Refusal::Unset => LoadRefusal::Unset,
-    }
-}
 
 // Loads the key of a text: 1 malformed, 2 limit unset, 3 reference already held, 4 no key row, the first of these in this
 // order, and nothing is stored; else the key takes the smallest free row.
@@ -28,10 +18,7 @@ pub(crate) fn load(core: &mut Core, text: &[u8]) -> Result<(), LoadRefusal>
     ensures said { loads (core_as false core.old) (loading text.now) ≡ does (core_as false core.new) (loaded (load_number result)) }
     ensures answers { Keeps core.old.tables core.new.tables }
 {
-    let key = match read(text) {
-        Ok(key) => key,
-        Err(refusal) => return Err(refused(refusal)),
-    };
+    let key = read(text)?;
     if core.tables.named::<Key>(key.reference()).is_some() {
         return Err(LoadRefusal::AlreadyHeld);
     }

@@ -13,19 +13,18 @@ use application::Application;
 use manage::{Core, Pending};
 use sealing::Sealer;
 use tables::Tables;
+use transact::Parts;
 
 // A card that is off takes only load and power on.
 #[derive(Drop)]
 pub struct Off<S, A> {
-    pub(crate) sealer: S,
-    pub(crate) application: A,
-    pub(crate) core: Core,
+    pub(crate) parts: Parts<S, A>,
 }
 
 impl<S: Sealer, A: Application> Off<S, A> {
     // A new card is blank and off, and set to require the channel or not.
     pub fn new(sealer: S, application: A, required: bool) -> Off<S, A>
-        ensures { off_state A.Application.contents result ≡ new required (A.Application.contents application) }
+        ensures { off_state A.contents result ≡ new required (A.contents application) }
     {
         let core = Core {
             tables: Tables::new(),
@@ -34,32 +33,26 @@ impl<S: Sealer, A: Application> Off<S, A> {
             required,
         };
         Off {
-            sealer,
-            application,
-            core,
+            parts: Parts {
+                sealer,
+                application,
+                core,
+            },
         }
     }
 
     // Loads the key of a text.
     pub fn load(&mut self, text: &[u8]) -> Result<(), LoadRefusal>
-        ensures { step keyed S.Sealer.seals A.Application.acts (off_state A.Application.contents self.old) (load text.now) ≡ outcome (off_state A.Application.contents self.new) (loaded (load_number result)) }
+        ensures { step keyed S.seals A.acts (off_state A.contents self.old) (load text.now) ≡ outcome (off_state A.contents self.new) (loaded (load_number result)) }
     {
-        load(&mut self.core, text)
+        load(&mut self.parts.core, text)
     }
 
     // Turns the power on.
     pub fn power_on(self) -> Powered<S, A>
-        ensures { step keyed S.Sealer.seals A.Application.acts (off_state A.Application.contents self) power_on ≡ outcome (on_state A.Application.contents result) powered }
+        ensures { step keyed S.seals A.acts (off_state A.contents self) power_on ≡ outcome (on_state A.contents result) powered }
     {
-        let Off {
-            sealer,
-            application,
-            core,
-        } = self;
-        Powered {
-            sealer,
-            application,
-            core,
-        }
+        let Off { parts } = self;
+        Powered { parts }
     }
 }

@@ -1,15 +1,13 @@
 -- What a command says, and the memory that it leaves, told of the buffer and the work area that were made for it.
-use Rattle.std.proofs.Common.{◌≡◌, ℕ, List, ◌++◌, length, take, drop, replicate, Ok, Err, Result, sym, refl, ap, ◌∙◌, arith, take_all}
+use Rattle.std.proofs.Common.{◌≡◌, ℕ, List, ◌++◌, length, take, drop, replicate, Ok, Err, Result, sym, ap, ◌∙◌, arith, take_all}
 use lib.ListN.{length-replicate}
 use lib.Seq.{take-append-le}
 use Rattle.std.proofs.lemmas.List.{drop-replicate}
-use Rattle.law.specs.Calls as law
 use Rattle.law.specs.Step as step
 use Rattle.law.specs.Step.{State}
 use Rattle.card.specs.declared.refusal.HostRefusal.{HostRefusal}
 use Rattle.card.specs.View.{outcome, answered, Memory}
-use Rattle.pair.specs.declared.calls.Answer.{Answer}
-use Rattle.pair.specs.View.{answer_of, command_answer}
+use Rattle.pair.specs.declared.calls.Answer.TheVariants.{Replied}
 use Rattle.pair.specs.Lent.{LentAs}
 
 -- A vector that was lent holds what was written.
@@ -19,17 +17,12 @@ holds_written n written before e = take-append-le n written (drop (length writte
 pub long : (xs : List ℕ) (n x : ℕ) → xs ≡ replicate n x → length xs ≡ n
 long xs n x e = ap (λ (ys : List ℕ). length ys) e ∙ length-replicate n x
 
-answers_as : (r : Result ℕ HostRefusal) (written : List ℕ) → answer_of (command_answer r) written ≡ answered r written
-answers_as (Ok n) written = refl
-answers_as (Err e) written = refl
-
-pub says : {M : Type 0} (d : step.Done M) (s : State M) (r : Result ℕ HostRefusal) (a : Answer) (written buffer : List ℕ)
-    → a ≡ command_answer r → buffer ≡ written → d ≡ outcome s (answered r written) → d ≡ outcome s (answer_of a buffer)
-says d s r a written buffer is same h =
-    h ∙ ap (λ (x : law.Answer). outcome s x) (sym (ap (λ (x : Answer). answer_of x buffer) is ∙ ap (λ (xs : List ℕ). answer_of (command_answer r) xs) same ∙ answers_as r written))
+pub says : {M : Type 0} (d : step.Done M) (s : State M) (r : Result ℕ HostRefusal) (written buffer : List ℕ)
+    → buffer ≡ written → d ≡ outcome s (answered r written) → d ≡ outcome s (answered r buffer)
+says d s r written buffer same h = h ∙ ap (λ (xs : List ℕ). outcome s (answered r xs)) (sym same)
 
 lends_as : (fill size area : ℕ) (r : Result ℕ HostRefusal) (lent written work after : List ℕ) → lent ≡ replicate size fill → work ≡ replicate area fill
-    → Memory r lent written work after → LentAs fill size area (command_answer r) written after
+    → Memory r lent written work after → LentAs fill size area (Replied r) written after
 lends_as fill size area (Ok n) lent written work after f w m =
     let l : length lent ≡ size = long lent size fill f in
     record {
@@ -40,8 +33,8 @@ lends_as fill size area (Ok n) lent written work after f w m =
     }
 lends_as fill size area (Err e) lent written work after f w m = (m.buffer ∙ f, m.area ∙ w)
 
-pub lends : (fill size area : ℕ) (r : Result ℕ HostRefusal) (a : Answer) (lent written buffer work after left : List ℕ) → a ≡ command_answer r → buffer ≡ written → left ≡ after
+pub lends : (fill size area : ℕ) (r : Result ℕ HostRefusal) (lent written buffer work after left : List ℕ) → buffer ≡ written → left ≡ after
     → lent ≡ replicate size fill → work ≡ replicate area fill
-    → Memory r lent written work after → LentAs fill size area a buffer left
-lends fill size area r a lent written buffer work after left is same same_area f w m =
-    rw (is, same, same_area) (lends_as fill size area r lent written work after f w m)
+    → Memory r lent written work after → LentAs fill size area (Replied r) buffer left
+lends fill size area r lent written buffer work after left same same_area f w m =
+    rw (same, same_area) (lends_as fill size area r lent written work after f w m)

@@ -23,8 +23,8 @@ never e = absurd (let z : ◌≡◌ {A = ℕ} 0 1 = cc in omega arith)
 module _ (𝓢 : Sealing) {S A M : Type 0} (𝓐 : Acts M) (f : A → M) where
   -- The card's own answers are all kept.
   stays_kept : (card : Card S A) → (state_of f card).answers ≡ kept (state_of f card).core.tables.connections (state_of f card).answers
-  stays_kept (Off c) = all_kept c.core.tables.connections
-  stays_kept (On c) = all_kept c.core.tables.connections
+  stays_kept (Off c) = all_kept c.parts.core.tables.connections
+  stays_kept (On c) = all_kept c.parts.core.tables.connections
 
   no_move : (card : Card S A) (call : Call) → takes card call ≡ false → moves keyed 𝓢 (state_of f card).core (call_of call) ≡ does (state_of f card).core not_taken
   no_move (Off c) (Load text) e = never e

@@ -1,9 +1,9 @@
 -- The memory that the host lends to each command, after it.
-use Rattle.std.specs.Prelude.{◌≡◌, ℕ, ◌-◌, ◌≤◌, List, [], ◌∷◌, length, drop, replicate, vec_items}
+use Rattle.std.specs.Prelude.{◌≡◌, ℕ, ◌-◌, ◌≤◌, List, [], ◌∷◌, length, drop, replicate, Ok, Err, vec_items}
 use Rattle.pair.specs.declared.calls.Call.{Call}
 use Rattle.pair.specs.declared.calls.Call.TheVariants.{Load, PowerOn, PowerOff, Command}
 use Rattle.pair.specs.declared.calls.Answer.{Answer}
-use Rattle.pair.specs.declared.calls.Answer.TheVariants.{NotTaken, Powered, Loaded, Refused, Replied}
+use Rattle.pair.specs.declared.calls.Answer.TheVariants.{NotTaken, Powered, Loaded, Replied}
 use Rattle.pair.specs.declared.calls.Done.{Done}
 
 -- How long a reply buffer a call lends.
@@ -31,9 +31,9 @@ pub record Behind (n fill size area : ℕ) (buffer work : List ℕ) : Type 0 whe
 abbrev pub LentAs : ℕ → ℕ → ℕ → Answer → List ℕ → List ℕ → Type 0
 LentAs fill size area NotTaken buffer work = (buffer ≡ []) × (work ≡ [])
 LentAs fill size area Powered buffer work = (buffer ≡ []) × (work ≡ [])
-LentAs fill size area (Loaded n) buffer work = (buffer ≡ []) × (work ≡ [])
-LentAs fill size area (Refused n) buffer work = (buffer ≡ replicate size fill) × (work ≡ replicate area fill)
-LentAs fill size area (Replied n) buffer work = Behind n fill size area buffer work
+LentAs fill size area (Loaded r) buffer work = (buffer ≡ []) × (work ≡ [])
+LentAs fill size area (Replied (Err e)) buffer work = (buffer ≡ replicate size fill) × (work ≡ replicate area fill)
+LentAs fill size area (Replied (Ok n)) buffer work = Behind n fill size area buffer work
 
 abbrev pub Lent : ℕ → Call → Done → Type 0
 Lent fill c d = LentAs fill (buffer_of c) (work_of c) d.answer (vec_items d.buffer) (vec_items d.work)

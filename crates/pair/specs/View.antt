@@ -1,15 +1,14 @@
 -- The program's calls, answers and cards, as the law speaks of them.
-use Rattle.std.specs.Prelude.{ℕ, Bool, true, false, List, [], ◌∷◌, take, Ok, Err, vec_items, Result}
+use Rattle.std.specs.Prelude.{ℕ, Bool, true, false, List, [], ◌∷◌, vec_items}
 use Rattle.law.specs.Calls as law
 use Rattle.law.specs.Calls.{Entry}
 use Rattle.law.specs.Step.{State}
-use Rattle.card.specs.declared.refusal.HostRefusal.{HostRefusal}
-use Rattle.card.specs.Refusals.{host_number}
-use Rattle.card.specs.View.{off_state, on_state}
+use Rattle.card.specs.Refusals.{load_number}
+use Rattle.card.specs.View.{off_state, on_state, answered}
 use Rattle.pair.specs.declared.calls.Call.{Call}
 use Rattle.pair.specs.declared.calls.Call.TheVariants.{Load, PowerOn, PowerOff, Command}
 use Rattle.pair.specs.declared.calls.Answer.{Answer}
-use Rattle.pair.specs.declared.calls.Answer.TheVariants.{NotTaken, Powered, Loaded, Refused, Replied}
+use Rattle.pair.specs.declared.calls.Answer.TheVariants.{NotTaken, Powered, Loaded, Replied}
 use Rattle.pair.specs.declared.calls.Done.{Done}
 use Rattle.pair.specs.declared.cards.Card.{Card}
 use Rattle.pair.specs.declared.cards.Card.TheVariants.{Off, On}
@@ -20,18 +19,12 @@ call_of PowerOn = law.power_on
 call_of PowerOff = law.power_off
 call_of (Command c) = law.command c.apdu.now c.random.now c.buffer c.work
 
--- An answer, by what the reply buffer then holds: a reply is the first bytes of it.
+-- An answer, by what the reply buffer then holds: a reply is the first bytes of it, and a refusal is told by its number.
 abbrev pub answer_of : Answer → List ℕ → law.Answer
 answer_of NotTaken buffer = law.not_taken
 answer_of Powered buffer = law.powered
-answer_of (Loaded n) buffer = law.loaded n
-answer_of (Refused n) buffer = law.refused_host n
-answer_of (Replied n) buffer = law.replied (take n buffer)
-
--- The answer to a command, by what the card gave.
-abbrev pub command_answer : Result ℕ HostRefusal → Answer
-command_answer (Ok n) = Replied n
-command_answer (Err e) = Refused (host_number e)
+answer_of (Loaded r) buffer = law.loaded (load_number r)
+answer_of (Replied r) buffer = answered r buffer
 
 abbrev pub done_answer : Done → law.Answer
 done_answer d = answer_of d.answer (vec_items d.buffer)

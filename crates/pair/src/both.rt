@@ -17,7 +17,7 @@ fn run_card<S: Sealer + Drop, A: Application + Drop>(
     fill: u8,
     heap: Global,
 ) -> Result<(Card<S, A>, Vec<Done>), AllocError>
-    ensures { IfOk result (λ m. Followed S.Sealer.seals A.Application.acts fill (state_of A.Application.contents card) calls.now m.1.items (state_of A.Application.contents m.0)) }
+    ensures { IfOk result (λ m. Followed S.seals A.acts fill (state_of A.contents card) calls.now m.1.items (state_of A.contents m.0)) }
 {
     let mut card = card;
     let mut dones = Vec::new(heap);
@@ -36,8 +36,8 @@ fn run_both<S: Sealer + Drop, L: Application + Drop, R: Application + Drop>(
     fill: u8,
     heap: Global,
 ) -> Result<Ran<S, L, R>, AllocError>
-    ensures left { IfOk result (λ ran. Followed S.Sealer.seals L.Application.acts fill (state_of L.Application.contents pair.left) calls.now ran.left.items (state_of L.Application.contents ran.pair.left)) }
-    ensures right { IfOk result (λ ran. Followed S.Sealer.seals R.Application.acts fill (state_of R.Application.contents pair.right) calls.now ran.right.items (state_of R.Application.contents ran.pair.right)) }
+    ensures left { IfOk result (λ ran. Followed S.seals L.acts fill (state_of L.contents pair.left) calls.now ran.left.items (state_of L.contents ran.pair.left)) }
+    ensures right { IfOk result (λ ran. Followed S.seals R.acts fill (state_of R.contents pair.right) calls.now ran.right.items (state_of R.contents ran.pair.right)) }
 {
     let Pair { left, right } = pair;
     let (left, left_dones) = run_card(left, calls, fill, heap)?;
@@ -58,9 +58,9 @@ pub fn run<S: Sealer + Drop, L: Application + Drop, R: Application + Drop>(
     fill: u8,
     heap: Global,
 ) -> Result<Ran<S, L, R>, AllocError>
-    ensures left { IfOk result (λ ran. Followed S.Sealer.seals L.Application.acts fill (state_of L.Application.contents pair.left) calls.now ran.left.items (state_of L.Application.contents ran.pair.left)) }
-    ensures right { IfOk result (λ ran. Followed S.Sealer.seals R.Application.acts fill (state_of R.Application.contents pair.right) calls.now ran.right.items (state_of R.Application.contents ran.pair.right)) }
-    ensures law { IfOk result (λ ran. LawfulRun S.Sealer.seals L.Application.acts R.Application.acts (state_of L.Application.contents pair.left) (state_of R.Application.contents pair.right) calls.now ran.left.items ran.right.items (state_of L.Application.contents ran.pair.left) (state_of R.Application.contents ran.pair.right)) }
+    ensures left { IfOk result (λ ran. Followed S.seals L.acts fill (state_of L.contents pair.left) calls.now ran.left.items (state_of L.contents ran.pair.left)) }
+    ensures right { IfOk result (λ ran. Followed S.seals R.acts fill (state_of R.contents pair.right) calls.now ran.right.items (state_of R.contents ran.pair.right)) }
+    ensures law { IfOk result (λ ran. LawfulRun S.seals L.acts R.acts (state_of L.contents pair.left) (state_of R.contents pair.right) calls.now ran.left.items ran.right.items (state_of L.contents ran.pair.left) (state_of R.contents ran.pair.right)) }
 {
     run_both(pair, calls, fill, heap)
 }

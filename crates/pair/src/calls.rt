@@ -1,4 +1,5 @@
 // The calls of a run, and what each came to.
+use card::{HostRefusal, LoadRefusal};
 
 // A command: its APDU, the random bytes, and how long a reply buffer and work area the host lends.
 #[derive(Clone, Copy)]
@@ -20,18 +21,16 @@ pub enum Call<'a> {
 }
 
 // What a card answers to a call.
-#[derive(Clone, Copy)]
+#[derive(Clone, Copy, PartialEq, Eq, Debug)]
 pub enum Answer {
     // The call was not made: off, a card takes only load and power on; powered, only command and power off.
     NotTaken,
     // The power was turned on or off.
     Powered,
-    // 0 accepted, else the number of the refusal.
-    Loaded(u8),
-    // The number of the host's refusal.
-    Refused(u8),
-    // The reply is that many bytes, the first of the buffer.
-    Replied(usize),
+    // The load was accepted, or refused.
+    Loaded(Result<(), LoadRefusal>),
+    // The reply is that many bytes, the first of the buffer; or the host is refused.
+    Replied(Result<usize, HostRefusal>),
 }
 
 // A call's answer, and the host's memory after it: both are empty where the call lends none.

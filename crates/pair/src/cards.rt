@@ -33,8 +33,8 @@ pub struct Ran<S, L, R> {
 impl<S: Sealer, L: Application, R: Application> Pair<S, L, R> {
     // Two new cards, blank and off, which both require the channel or both do not.
     pub fn new(left_sealer: S, right_sealer: S, left: L, right: R, required: bool) -> Pair<S, L, R>
-        ensures left { state_of L.Application.contents result.left ≡ new required (L.Application.contents left) }
-        ensures right { state_of R.Application.contents result.right ≡ new required (R.Application.contents right) }
+        ensures left { state_of L.contents result.left ≡ new required (L.contents left) }
+        ensures right { state_of R.contents result.right ≡ new required (R.contents right) }
     {
         Pair {
             left: Card::Off(Off::new(left_sealer, left, required)),

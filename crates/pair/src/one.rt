@@ -2,38 +2,17 @@
 ghost use Rattle.std.specs.Prelude.{◌≡◌, ℕ, false, [], IfOk};
 ghost use Rattle.law.specs.Hashes.{keyed};
 ghost use Rattle.law.specs.Step.{step};
-ghost use Rattle.card.specs.Refusals.{load_number};
 ghost use Rattle.card.specs.View.{off_state, on_state, outcome};
 ghost use Rattle.pair.specs.Lent.{Lent};
 ghost use Rattle.pair.specs.declared.calls.Call.TheVariants.{Command};
-ghost use Rattle.pair.specs.View.{call_of, command_answer, done_answer, state_of, takes};
+ghost use Rattle.pair.specs.View.{call_of, done_answer, state_of, takes};
 
 use crate::calls::{Answer, Call, CommandCall, Done};
 use crate::cards::Card;
 use application::Application;
-use card::{HostRefusal, LoadRefusal, Off, Powered};
+use card::{Off, Powered};
 use sealing::Sealer;
 use std::alloc::{AllocError, Global};
-
-// A load's answer by number: 0 is accepted.
-fn load_number(res: Result<(), LoadRefusal>) -> u8
-    ensures { result ≡ load_number res }
-{
-    match res {
-        Ok(()) => 0,
-        Err(refusal) => refusal.number(),
-    }
-}
-
-// A command's answer.
-fn command_answer(res: Result<usize, HostRefusal>) -> Answer
-    ensures { result ≡ command_answer res }
-{
-    match res {
-        Ok(len) => Answer::Replied(len),
-        Err(refusal) => Answer::Refused(refusal.number()),
-    }
-}
 
 // What a call came to that lends no memory.
 fn plain(answer: Answer, heap: Global) -> Done
@@ -55,7 +34,7 @@ fn not_taken<S: Sealer, A: Application>(
     heap: Global,
 ) -> (Card<S, A>, Done)
     requires { takes card call.now ≡ false }
-    ensures said { step keyed S.Sealer.seals A.Application.acts (state_of A.Application.contents card) (call_of call.now) ≡ outcome (state_of A.Application.contents result.0) (done_answer result.1) }
+    ensures said { step keyed S.seals A.acts (state_of A.contents card) (call_of call.now) ≡ outcome (state_of A.contents result.0) (done_answer result.1) }
     ensures memory { (fill : ℕ) → Lent fill call.now result.1 }
 {
     (card, plain(Answer::NotTaken, heap))
@@ -67,18 +46,17 @@ fn call_off<S: Sealer, A: Application>(
     call: &Call<'_>,
     heap: Global,
 ) -> (Card<S, A>, Done)
-    ensures said { step keyed S.Sealer.seals A.Application.acts (off_state A.Application.contents card) (call_of call.now) ≡ outcome (state_of A.Application.contents result.0) (done_answer result.1) }
+    ensures said { step keyed S.seals A.acts (off_state A.contents card) (call_of call.now) ≡ outcome (state_of A.contents result.0) (done_answer result.1) }
     ensures memory { (fill : ℕ) → Lent fill call.now result.1 }
 {
     let mut card = card;
     match *call {
         Call::Load(text) => {
-            let number = load_number(card.load(text));
-            (Card::Off(card), plain(Answer::Loaded(number), heap))
+            let answer = Answer::Loaded(card.load(text));
+            (Card::Off(card), plain(answer, heap))
         }
         Call::PowerOn => (Card::On(card.power_on()), plain(Answer::Powered, heap)),
-        Call::PowerOff => not_taken(Card::Off(card), call, heap),
-        Call::Command(_) => not_taken(Card::Off(card), call, heap),
+        Call::PowerOff | Call::Command(_) => not_taken(Card::Off(card), call, heap),
     }
 }
 
@@ -89,15 +67,14 @@ fn commanded<S: Sealer, A: Application>(
     fill: u8,
     heap: Global,
 ) -> Result<Done, AllocError>
-    ensures said { IfOk result (λ d. step keyed S.Sealer.seals A.Application.acts (on_state A.Application.contents card.old) (call_of (Command call.entry)) ≡ outcome (on_state A.Application.contents card.new) (done_answer d)) }
+    ensures said { IfOk result (λ d. step keyed S.seals A.acts (on_state A.contents card.old) (call_of (Command call.entry)) ≡ outcome (on_state A.contents card.new) (done_answer d)) }
     ensures memory { IfOk result (λ d. Lent fill (Command call.entry) d) }
 {
     let mut buffer = vec![in heap; fill; call.buffer]?;
     let mut work = vec![in heap; fill; call.work]?;
     let result = card.command(call.apdu, call.random, &mut buffer, &mut work);
-    let answer = command_answer(result);
     Ok(Done {
-        answer,
+        answer: Answer::Replied(result),
         buffer,
         work,
     })
@@ -110,7 +87,7 @@ fn call_on<S: Sealer + Drop, A: Application + Drop>(
     fill: u8,
     heap: Global,
 ) -> Result<(Card<S, A>, Done), AllocError>
-    ensures said { IfOk result (λ m. step keyed S.Sealer.seals A.Application.acts (on_state A.Application.contents card) (call_of call.now) ≡ outcome (state_of A.Application.contents m.0) (done_answer m.1)) }
+    ensures said { IfOk result (λ m. step keyed S.seals A.acts (on_state A.contents card) (call_of call.now) ≡ outcome (state_of A.contents m.0) (done_answer m.1)) }
     ensures memory { IfOk result (λ m. Lent fill call.now m.1) }
 {
     let mut card = card;
@@ -132,7 +109,7 @@ pub(crate) fn one<S: Sealer + Drop, A: Application + Drop>(
     fill: u8,
     heap: Global,
 ) -> Result<(Card<S, A>, Done), AllocError>
-    ensures said { IfOk result (λ m. step keyed S.Sealer.seals A.Application.acts (state_of A.Application.contents card) (call_of call.now) ≡ outcome (state_of A.Application.contents m.0) (done_answer m.1)) }
+    ensures said { IfOk result (λ m. step keyed S.seals A.acts (state_of A.contents card) (call_of call.now) ≡ outcome (state_of A.contents m.0) (done_answer m.1)) }
     ensures memory { IfOk result (λ m. Lent fill call.now m.1) }
 {
     match card {

@@ -44,6 +44,11 @@ module _ (𝓢 : Sealing) {M : Type 0} (𝓐 : Acts M) where
   pub unchanged : (c : Core) (k : M) (s : Status) → carries 𝓢 𝓐 (state_of c k) (says (core_of c) s) ≡ ended c k s
   unchanged c k s = carried (says (core_of c) s) c c k s (record { move = refl; answers = all_kept c.tables.connections })
 
+  -- A status word alone, told.
+  pub tells_status : (c : Core) (k : M) (m : Move) (w : Status) (t : Told) → m ≡ says (core_of c) w → bytes_of t ≡ reply [] w → carries 𝓢 𝓐 (state_of c k) m ≡ told c k t
+  tells_status c k m w t e b =
+      ap (carries 𝓢 𝓐 (state_of c k)) e ∙ unchanged c k w ∙ ap (λ (zs : List ℕ). done (core_of c) (answers_of c.tables) k (replied zs)) (sym b)
+
 -- What a block can make of a session.
 abbrev of_block : Result Heard Status → Bool
 of_block (Err s) = true
@@ -116,11 +121,6 @@ module _ (𝓢 : Sealing) {M : Type 0} (𝓐 : Acts M) (c : Core) (k : M) (row :
   abbrev carry : Move → Done M
   carry m = carries 𝓢 𝓐 (state_of c k) m
 
-  -- A status word alone, told.
-  pub tells_status : (m : Move) (w : Status) (t : Told) → m ≡ says (core_of c) w → bytes_of t ≡ reply [] w → carries 𝓢 𝓐 (state_of c k) m ≡ told c k t
-  tells_status m w t e b =
-      ap carry e ∙ unchanged 𝓢 𝓐 c k w ∙ ap (λ (zs : List ℕ). done (core_of c) (answers_of c.tables) k (replied zs)) (sym b)
-
   -- A session that is not started.
   pub block_unstarted : (p2 : ℕ) → session_at (at c row) ≡ law.unstarted → carries 𝓢 𝓐 (state_of c k) (blocks 𝓢 (core_of c) row p2 s (at c row)) ≡ ended c k sw.NotNow
   block_unstarted p2 e = ap carry (blocks_unstarted 𝓢 (core_of c) row p2 s (at c row) e) ∙ unchanged 𝓢 𝓐 c k sw.NotNow
@@ -130,7 +130,7 @@ module _ (𝓢 : Sealing) {M : Type 0} (𝓐 : Acts M) (c : Core) (k : M) (row :
 
   pub fetch_unstarted : (n : ℕ) (t : Told) → session_at (at c row) ≡ law.unstarted → bytes_of t ≡ reply [] sw.NotNow
       → carries 𝓢 𝓐 (state_of c k) (law_step.fetches (core_of c) row n s (at c row)) ≡ told c k t
-  fetch_unstarted n t e b = tells_status (law_step.fetches (core_of c) row n s (at c row)) sw.NotNow t (fetches_unstarted 𝓢 (core_of c) row n s (at c row) e) b
+  fetch_unstarted n t e b = tells_status 𝓢 𝓐 c k (law_step.fetches (core_of c) row n s (at c row)) sw.NotNow t (fetches_unstarted 𝓢 (core_of c) row n s (at c row) e) b
 
   module _ (st : Started) (q : StartedAt c row st) where
     abbrev size : ℕ
@@ -173,7 +173,7 @@ module _ (𝓢 : Sealing) {M : Type 0} (𝓐 : Acts M) (c : Core) (k : M) (row :
 
     pub fetch_refused : (n : ℕ) (w : Status) (t : Told) → Err w ≡ (heard size was fetch).0 → bytes_of t ≡ reply [] w
         → carries 𝓢 𝓐 (state_of c k) (law_step.fetches (core_of c) row n s (at c row)) ≡ told c k t
-    fetch_refused n w t e b = tells_status (law_step.fetches (core_of c) row n s (at c row)) w t (fetch_moves n (Err w) e) b
+    fetch_refused n w t e b = tells_status 𝓢 𝓐 c k (law_step.fetches (core_of c) row n s (at c row)) w t (fetch_moves n (Err w) e) b
 
     -- The session is y now.
     module _ (y : Session) where

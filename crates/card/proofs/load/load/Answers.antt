@@ -6,41 +6,33 @@ use Rattle.tables.proofs.Kept.{all_kept}
 use Rattle.manage.specs.View.{core_as}
 use Rattle.law.specs.Rows.{is_some, found, full, free}
 use Rattle.law.specs.Associate.{has_ref}
-use Rattle.law.specs.Calls.{loaded}
-use Rattle.law.specs.Step.{does}
-use Rattle.card.specs.Refusals.{load_number_of}
-use Rattle.card.proofs.Loads.{no_key, found_some, held_already, no_row, all_full}
+use Rattle.card.proofs.Loads.{found_some, held_already, no_row, all_full}
 use Rattle.card.proofs.load.load.Goals as goal
 
-pub returns-in-Err : goal.returns-in-Err
-returns-in-Err c =
-    let d = core_as false c.args.core.now in
-    record {
-      said = no_key d c.in-Err.refusal (loading c.args.text.now) c.in-Err.ensures.meaning ∙ ap (λ w. does d (loaded (load_number_of w))) (sym c.refused.ensures);
-      answers = all_kept c.args.core.now.tables.connections;
-    }
+pub returns-in_err-key-clause-answers : goal.returns-in_err-key-clause-answers
+returns-in_err-key-clause-answers c = all_kept c.args.core.now.tables.connections
 
 pub returns-then-is_some : goal.returns-then-is_some
 returns-then-is_some c =
     let d = core_as false c.args.core.now in
-    let k = says c.in-Ok.key in
+    let k = says c.in_ok-key.key in
     let ks = keys_of c.args.core.now.tables.keys in
     let by : List ℕ → Bool = λ r. is_some (found (has_ref r) ks) in
     let h : by k.ref ≡ true =
     ap by (sym c.reference.ensures.value) ∙ sym (found_some (at_of key_of) c.named.result (found (has_ref c.reference.result.now) ks) c.named.ensures.found)
     ∙ sym c.is_some.ensures ∙ c.if-is_some.true in
-    record { said = held_already d k (loading c.args.text.now) c.in-Ok.ensures.meaning h; answers = all_kept c.args.core.now.tables.connections }
+    record { said = held_already d k (loading c.args.text.now) c.in_ok-key.ensures.meaning h; answers = all_kept c.args.core.now.tables.connections }
 
 pub returns-in_default : goal.returns-in_default
 returns-in_default c =
     let d = core_as false c.args.core.now in
-    let k = says c.in-Ok.key in
+    let k = says c.in_ok-key.key in
     let ks = keys_of c.args.core.now.tables.keys in
     let by : List ℕ → Bool = λ r. is_some (found (has_ref r) ks) in
     let h : by k.ref ≡ false =
     ap by (sym c.reference.ensures.value) ∙ sym (found_some (at_of key_of) c.named.result (found (has_ref c.reference.result.now) ks) c.named.ensures.found)
     ∙ sym c.is_some.ensures ∙ c.if-is_some.false in
     record {
-      said = no_row d k (loading c.args.text.now) c.in-Ok.ensures.meaning h (all_full (full ks) (free ks) c.in_default.ensures);
+      said = no_row d k (loading c.args.text.now) c.in_ok-key.ensures.meaning h (all_full (full ks) (free ks) c.in_default.ensures);
       answers = all_kept c.args.core.now.tables.connections;
     }

@@ -17,8 +17,8 @@ returns g c =
     let same = holds_written c.in_ok-buffer.buffer.len written c.in_ok-buffer.buffer.items buffer-length in
     let same_area = holds_written c.in_ok-work.work.len after c.in_ok-work.work.items work-length in
     record {
-      said = says _ _ c.command-result.result c.command_answer-answer.result written _ c.command_answer-answer.ensures same
+      said = says _ _ c.command-result.result written _ same
           (rw (long lent call.buffer fill filled, long work call.work fill cleared) at c.command-result.ensures.said);
-      memory = lends fill call.buffer call.work c.command-result.result c.command_answer-answer.result lent written _ work after _
-          c.command_answer-answer.ensures same same_area filled cleared c.command-result.ensures.memory;
+      memory = lends fill call.buffer call.work c.command-result.result lent written _ work after _
+          same same_area filled cleared c.command-result.ensures.memory;
     }

@@ -7,5 +7,5 @@ use Rattle.card.proofs.off.Off.power_on.Goals as goal
 
 pub returns : goal.returns
 returns g c =
-    let d = c.args.self.core in
-    ap (λ (zs : List (List ℕ)). done (core_as true d) zs (g.A.Application.contents c.args.self.application) powered) (sym (all_kept d.tables.connections))
+    let d = c.args.self.parts.core in
+    ap (λ (zs : List (List ℕ)). done (core_as true d) zs (g.A.Application.contents c.args.self.parts.application) powered) (sym (all_kept d.tables.connections))

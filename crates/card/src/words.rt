@@ -1,0 +1,76 @@
+// The numbers of the refusals, and what they say in words.
+ghost use Rattle.std.specs.Prelude.{◌≡◌, Some};
+ghost use Rattle.card.specs.Refusals.{load_number_of, load_words, host_number, host_words, refused_text};
+
+use crate::refusal::{HostRefusal, LoadRefusal};
+use personalise::Refusal;
+use std::error::Error;
+use std::fmt;
+
+// The number by which the card answers it; an accepted load is 0.
+impl From<LoadRefusal> for u8 {
+    ghost from_gives = { λ e n. n ≡ load_number_of e };
+
+    fn from(refusal: LoadRefusal) -> u8 {
+        match refusal {
+            LoadRefusal::Malformed => 1,
+            LoadRefusal::Unset => 2,
+            LoadRefusal::AlreadyHeld => 3,
+            LoadRefusal::NoRow => 4,
+        }
+    }
+}
+
+// The number by which the card answers it.
+impl From<HostRefusal> for u8 {
+    ghost from_gives = { λ e n. n ≡ host_number e };
+
+    fn from(refusal: HostRefusal) -> u8 {
+        match refusal {
+            HostRefusal::ShortMemory => 5,
+            HostRefusal::RandomBytes => 6,
+        }
+    }
+}
+
+// A text that gives no key.
+impl From<Refusal> for LoadRefusal {
+    ghost from_gives = { λ r e. e ≡ refused_text r };
+
+    fn from(refusal: Refusal) -> LoadRefusal {
+        match refusal {
+            Refusal::Malformed => LoadRefusal::Malformed,
+            Refusal::Unset => LoadRefusal::Unset,
+        }
+    }
+}
+
+// The refusal in words, for people.
+impl fmt::Display for LoadRefusal {
+    ghost output = { λ e. Some (load_words e) };
+
+    fn fmt<W: fmt::Write>(&self, f: &mut fmt::Formatter<W>) -> fmt::Result {
+        f.write_str(match self {
+            LoadRefusal::Malformed => "the text is not a key load",
+            LoadRefusal::Unset => "a limit is not set",
+            LoadRefusal::AlreadyHeld => "a key with this reference is held already",
+            LoadRefusal::NoRow => "no key row is free",
+        })
+    }
+}
+
+impl Error for LoadRefusal {}
+
+// The refusal in words, for people.
+impl fmt::Display for HostRefusal {
+    ghost output = { λ e. Some (host_words e) };
+
+    fn fmt<W: fmt::Write>(&self, f: &mut fmt::Formatter<W>) -> fmt::Result {
+        f.write_str(match self {
+            HostRefusal::ShortMemory => "the reply buffer or the work area is too short",
+            HostRefusal::RandomBytes => "there are not 32 random bytes",
+        })
+    }
+}
+
+impl Error for HostRefusal {}
