@@ -64,12 +64,12 @@ impl TryFrom<[u8; 2]> for Status {
     }
 }
 
-// What the status word says, in words.
-impl fmt::Display for Status {
-    ghost output = { λ s. Some (status_words s) };
-
-    fn fmt<W: fmt::Write>(&self, f: &mut fmt::Formatter<W>) -> fmt::Result {
-        f.write_str(match self {
+impl Status {
+    // What the status word says, in words.
+    pub fn words(self) -> &'static str
+        ensures { result.now ≡ status_words self }
+    {
+        match self {
             Status::Done => "done",
             Status::MoreToFetch => "more of the reply is left to fetch",
             Status::ReplyWaits => "done, a reply waits to be fetched",
@@ -87,7 +87,16 @@ impl fmt::Display for Status {
             Status::NoSuchIdentifier => "no such identifier",
             Status::UnknownInstruction => "unknown instruction",
             Status::Taken(_) => "session block taken",
-        })
+        }
+    }
+}
+
+// The status word in its words.
+impl fmt::Display for Status {
+    ghost output = { λ s. Some (status_words s) };
+
+    fn fmt<W: fmt::Write>(&self, f: &mut fmt::Formatter<W>) -> fmt::Result {
+        f.write_str(self.words())
     }
 }
 

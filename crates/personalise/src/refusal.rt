@@ -26,7 +26,23 @@ impl From<Refusal> for u8 {
     }
 }
 
-// The refusal in words, for people.
+impl Refusal {
+    ghost use Rattle.std.specs.Prelude.{◌≡◌};
+    ghost use Rattle.personalise.specs.Refusals.{refusal_words};
+
+    // The refusal in words, for people.
+    pub fn words(self) -> &'static str
+        ensures { result.now ≡ refusal_words self }
+    {
+        match self {
+            Refusal::Malformed =>
+                "the text is not a key load: a line is missing, out of place or wrongly written",
+            Refusal::Unset => "a limit is not set",
+        }
+    }
+}
+
+// The refusal in its words.
 impl fmt::Display for Refusal {
     ghost use Rattle.std.specs.Prelude.{Some};
     ghost use Rattle.personalise.specs.Refusals.{refusal_words};
@@ -34,11 +50,7 @@ impl fmt::Display for Refusal {
     ghost output = { λ refusal. Some (refusal_words refusal) };
 
     fn fmt<W: fmt::Write>(&self, f: &mut fmt::Formatter<W>) -> fmt::Result {
-        f.write_str(match self {
-            Refusal::Malformed =>
-                "the text is not a key load: a line is missing, out of place or wrongly written",
-            Refusal::Unset => "a limit is not set",
-        })
+        f.write_str(self.words())
     }
 }
 
