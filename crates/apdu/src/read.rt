@@ -67,6 +67,7 @@ impl<'a> Apdu<'a> {
     }
 
     // Reads a command from its bytes; `None` exactly where they are malformed.
+    // An Option and no TryFrom: every caller answers one status word to all that is malformed.
     pub fn read(bytes: &'a [u8]) -> Option<Apdu<'a>>
         ensures command { option_map command_of result ≡ command_in bytes.now }
         ensures exact { Reads bytes.now (option_map command_of result) }

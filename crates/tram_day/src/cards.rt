@@ -1,6 +1,6 @@
 // The two cards side by side: a fare counter on the left, a record file on the right.
 use crate::random::random;
-use anyhow::anyhow;
+use anyhow::{Context, anyhow};
 use fares::FareCounter;
 use pair::{Answer, Call, CommandCall, Done, Pair, Ran, run};
 use records::RecordFile;
@@ -17,9 +17,10 @@ pub struct Replies {
     pub right: Vec<u8>,
 }
 
-// The cards, and how many commands they were sent.
+// The cards, how many commands they were sent, and where the day is shown.
 #[derive(Drop)]
-pub struct Cards {
+pub struct Cards<'a> {
+    pub rt: &'a HostRuntime,
     pair: Pair<RealSealer, FareCounter, RecordFile>,
     sent: u64,
 }
@@ -53,79 +54,78 @@ fn powered(done: &Done) -> anyhow::Result<()> {
 
 // The reply that a card writes to its buffer.
 fn reply(heap: Global, done: &Done) -> anyhow::Result<Vec<u8>> {
-    match done.answer {
-        Answer::Replied(len) => match done.buffer.as_slice().get(0..len) {
-            Some(bytes) => Ok(Vec::from_slice(heap, bytes)?),
-            None => Err(anyhow!("a reply longer than its buffer")),
-        },
-        _ => Err(anyhow!("the card takes no command")),
-    }
+    let Answer::Replied(len) = done.answer else {
+        return Err(anyhow!("the card takes no command"));
+    };
+    let bytes = done
+        .buffer
+        .as_slice()
+        .get(..len)
+        .context("a reply longer than its buffer")?;
+    Ok(bytes.to_vec(heap)?)
 }
 
-// The call that turns the power on or off.
-fn turn(on: bool) -> Call<'static> {
-    if on { Call::PowerOn } else { Call::PowerOff }
-}
-
-impl Cards {
+impl<'a> Cards<'a> {
     // Two new cards that require the channel.
-    pub fn new() -> Cards {
+    pub fn new(rt: &'a HostRuntime) -> Cards<'a> {
         Cards {
+            rt,
             pair: new_pair(),
             sent: 0,
         }
     }
 
     // Makes one call to both cards.
-    fn call(&mut self, heap: Global, call: &Call<'_>) -> anyhow::Result<(Done, Done)> {
+    fn call(&mut self, call: &Call<'_>) -> anyhow::Result<(Done, Done)> {
         let pair = std::mem::replace(&mut self.pair, new_pair());
-        let Ran { pair, left, right } = run(pair, &[*call], FILL, heap)?;
+        let Ran {
+            pair,
+            mut left,
+            mut right,
+        } = run(pair, &[*call], FILL, self.rt.alloc())?;
         self.pair = pair;
-        let mut left = left;
-        let mut right = right;
-        match (left.pop(), right.pop()) {
-            (Some(left), Some(right)) => Ok((left, right)),
-            _ => Err(anyhow!("a call without an answer")),
-        }
+        left.pop()
+            .zip(right.pop())
+            .context("a call without an answer")
     }
 
     // Loads a key into both cards; the number that they answer.
-    pub fn load(&mut self, heap: Global, text: &[u8]) -> anyhow::Result<u8> {
-        let (left, right) = self.call(heap, &Call::Load(text))?;
+    pub fn load(&mut self, text: &[u8]) -> anyhow::Result<u8> {
+        let (left, right) = self.call(&Call::Load(text))?;
         let _right = loaded(&right)?;
         loaded(&left)
     }
 
-    // Powers both cards on.
-    pub fn power_on(&mut self, heap: Global) -> anyhow::Result<()> {
-        let (left, right) = self.call(heap, &turn(true))?;
+    // Turns both cards' power on or off, as the call says.
+    fn turn(&mut self, power: Call<'_>) -> anyhow::Result<()> {
+        let (left, right) = self.call(&power)?;
         powered(&left)?;
         powered(&right)
+    }
+
+    // Powers both cards on.
+    pub fn power_on(&mut self) -> anyhow::Result<()> {
+        self.turn(Call::PowerOn)
     }
 
     // Powers both cards off.
-    pub fn power_off(&mut self, heap: Global) -> anyhow::Result<()> {
-        let (left, right) = self.call(heap, &turn(false))?;
-        powered(&left)?;
-        powered(&right)
+    pub fn power_off(&mut self) -> anyhow::Result<()> {
+        self.turn(Call::PowerOff)
     }
 
     // Sends a command to both cards.
-    pub fn send(&mut self, heap: Global, command: &[u8]) -> anyhow::Result<Replies> {
+    pub fn send(&mut self, command: &[u8]) -> anyhow::Result<Replies> {
         let random = random(self.sent);
         self.sent = self.sent.wrapping_add(1);
-        let (left, right) = self.call(
-            heap,
-            &Call::Command(CommandCall {
-                apdu: command,
-                random: &random,
-                buffer: 258,
-                work: 64,
-            }),
-        )?;
+        let (left, right) = self.call(&Call::Command(CommandCall {
+            apdu: command,
+            random: &random,
+            buffer: 258,
+            work: 64,
+        }))?;
         Ok(Replies {
-            left: reply(heap, &left)?,
-            right: reply(heap, &right)?,
+            left: reply(self.rt.alloc(), &left)?,
+            right: reply(self.rt.alloc(), &right)?,
         })
     }
 }

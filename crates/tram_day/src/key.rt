@@ -1,6 +1,6 @@
 // The key's load, from the file that the first argument names.
 use crate::cards::Cards;
-use anyhow::anyhow;
+use anyhow::Context;
 use personalise::{KeyLoad, read};
 use show::spaced;
 use std::{env, fs};
@@ -9,9 +9,7 @@ use std::{env, fs};
 fn text(rt: &HostRuntime) -> anyhow::Result<Vec<u8>> {
     let mut words = env::args(rt)?;
     let _program = words.next();
-    let Some(path) = words.next() else {
-        return Err(anyhow!("name the file of a key's load"));
-    };
+    let path = words.next().context("name the file of a key's load")?;
     Ok(fs::read(rt, path.as_str())?)
 }
 
@@ -29,12 +27,14 @@ fn show_limits(rt: &HostRuntime, load: &KeyLoad) -> anyhow::Result<()> {
 }
 
 // Loads the key into both cards; what the terminal knows of it.
-pub fn load(rt: &HostRuntime, cards: &mut Cards) -> anyhow::Result<KeyLoad> {
-    let text = text(rt)?;
+pub fn load(cards: &mut Cards<'_>) -> anyhow::Result<KeyLoad> {
+    let text = text(cards.rt)?;
     let load = read(text.as_slice())?;
-    println!(rt; "The key is loaded into both cards, left a fare counter, right a record file")?;
-    show_limits(rt, &load)?;
-    let number = cards.load(rt.alloc(), text.as_slice())?;
-    println!(rt; "  loaded: {number}")?;
+    println!(cards.rt;
+        "The key is loaded into both cards, left a fare counter, right a record file"
+    )?;
+    show_limits(cards.rt, &load)?;
+    let number = cards.load(text.as_slice())?;
+    println!(cards.rt; "  loaded: {number}")?;
     Ok(load)
 }

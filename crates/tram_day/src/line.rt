@@ -22,10 +22,7 @@ pub fn status_of(reply: &[u8]) -> Result<Status, NoSuchStatus> {
 
 // Whether a session's block was taken with a second byte that is odd: a command is complete, or an answer goes on.
 pub fn is_marked(reply: &[u8]) -> bool {
-    match status_of(reply) {
-        Ok(Status::Taken(sw2)) => sw2 % 2 == 1,
-        _ => false,
-    }
+    matches!(status_of(reply), Ok(Status::Taken(sw2)) if sw2 % 2 == 1)
 }
 
 // A reply in bytes, and its status word in words.
@@ -62,12 +59,12 @@ fn show_apart(rt: &HostRuntime, command: &[u8], replies: &Replies) -> anyhow::Re
 }
 
 // Sends a command to both cards, and shows what passes over the line.
-pub fn send(rt: &HostRuntime, cards: &mut Cards, command: &[u8]) -> anyhow::Result<Replies> {
-    let replies = cards.send(rt.alloc(), command)?;
+pub fn send(cards: &mut Cards<'_>, command: &[u8]) -> anyhow::Result<Replies> {
+    let replies = cards.send(command)?;
     if replies.left.as_slice() == replies.right.as_slice() {
-        show_alike(rt, command, replies.left.as_slice())?;
+        show_alike(cards.rt, command, replies.left.as_slice())?;
     } else {
-        show_apart(rt, command, &replies)?;
+        show_apart(cards.rt, command, &replies)?;
     }
     Ok(replies)
 }

@@ -3,7 +3,6 @@
 
 mod cards;
 mod establish;
-mod fare;
 mod key;
 mod line;
 mod random;
@@ -15,24 +14,24 @@ use establish::{discover, end, establish_connection, establish_master, start};
 use terminal::Master;
 
 // Fares go through a connection until it may carry no more.
-fn trips(rt: &HostRuntime, cards: &mut Cards, master: &Master) -> anyhow::Result<()> {
-    let connection = establish_connection(rt, cards, master)?;
-    let mut channel = start(rt, cards, connection)?;
-    trip::first_fare(rt, cards, &mut channel)?;
-    trip::second_fare(rt, cards, &mut channel)?;
-    trip::receipt(rt, cards, &mut channel)?;
-    trip::total(rt, cards, &mut channel)?;
-    trip::beyond(rt, cards, &channel)
+fn trips(cards: &mut Cards<'_>, master: &Master) -> anyhow::Result<()> {
+    let connection = establish_connection(cards, master)?;
+    let mut channel = start(cards, connection)?;
+    trip::first_fare(cards, &mut channel)?;
+    trip::second_fare(cards, &mut channel)?;
+    trip::receipt(cards, &mut channel)?;
+    trip::total(cards, &mut channel)?;
+    trip::beyond(cards, &channel)
 }
 
 fn day(rt: &HostRuntime) -> anyhow::Result<()> {
-    let mut cards = Cards::new();
-    let load = key::load(rt, &mut cards)?;
-    discover(rt, &mut cards)?;
-    let master = establish_master(rt, &mut cards, &load)?;
-    trips(rt, &mut cards, &master)?;
-    let connection = establish_connection(rt, &mut cards, &master)?;
-    end(rt, &mut cards, &master, &connection)
+    let mut cards = Cards::new(rt);
+    let load = key::load(&mut cards)?;
+    discover(&mut cards)?;
+    let master = establish_master(&mut cards, &load)?;
+    trips(&mut cards, &master)?;
+    let connection = establish_connection(&mut cards, &master)?;
+    end(&mut cards, &master, &connection)
 }
 
 fn main(rt: HostRuntime) -> anyhow::Result<()> {

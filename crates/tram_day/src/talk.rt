@@ -1,10 +1,10 @@
 // Commands under seal, in blocks, and their answers.
 use crate::cards::{Cards, Replies};
 use crate::line::{data_of, is_marked, send, told};
-use anyhow::anyhow;
+use anyhow::Context;
 use sealer::RealSealer;
 use sealing::Sealer;
-use std::alloc::{AllocError, Global};
+use std::alloc::Global;
 use terminal::{Connection, Session};
 
 // A connection with its session.
@@ -23,14 +23,14 @@ pub struct Sent {
 
 impl Channel {
     // Sends a sealed string, block by block.
-    pub fn send(&self, rt: &HostRuntime, cards: &mut Cards, string: &[u8]) -> anyhow::Result<Sent> {
-        let mut last = Vec::new(rt.alloc());
+    pub fn send(&self, cards: &mut Cards<'_>, string: &[u8]) -> anyhow::Result<Sent> {
+        let mut last = Vec::new(cards.rt.alloc());
         let mut complete = false;
         for number in 0..=255u8 {
-            let Some(block) = self.session.block(rt.alloc(), string, number)? else {
+            let Some(block) = self.session.block(cards.rt.alloc(), string, number)? else {
                 break;
             };
-            let replies = send(rt, cards, block.as_slice())?;
+            let replies = send(cards, block.as_slice())?;
             complete = is_marked(replies.left.as_slice());
             last = block;
         }
@@ -38,13 +38,13 @@ impl Channel {
     }
 
     // Fetches the answers of both cards, block by block.
-    fn fetch(&self, rt: &HostRuntime, cards: &mut Cards) -> anyhow::Result<Replies> {
-        let mut left = Vec::new(rt.alloc());
-        let mut right = Vec::new(rt.alloc());
+    fn fetch(&self, cards: &mut Cards<'_>) -> anyhow::Result<Replies> {
+        let mut left = Vec::new(cards.rt.alloc());
+        let mut right = Vec::new(cards.rt.alloc());
         for number in 0..=255u8 {
-            let replies = send(rt, cards, &self.session.fetch(number))?;
-            left = joined(left, replies.left.as_slice())?;
-            right = joined(right, replies.right.as_slice())?;
+            let replies = send(cards, &self.session.fetch(number))?;
+            left.extend_from_slice(data_of(replies.left.as_slice()))?;
+            right.extend_from_slice(data_of(replies.right.as_slice()))?;
             if !is_marked(replies.left.as_slice()) && !is_marked(replies.right.as_slice()) {
                 break;
             }
@@ -54,33 +54,20 @@ impl Channel {
 
     // What an application replied to the command of this number, out of its seal.
     fn open(&self, heap: Global, number: u64, string: &mut [u8]) -> anyhow::Result<Vec<u8>> {
-        match self.connection.open(heap, &RealSealer, number, string)? {
-            Some(reply) => Ok(reply),
-            None => Err(anyhow!("the answer does not open")),
-        }
+        self.connection
+            .open(heap, &RealSealer, number, string)?
+            .context("the answer does not open")
     }
 
     // Fetches the answers to the command of this number, opens them, and shows them.
-    pub fn answers(
-        &self,
-        rt: &HostRuntime,
-        cards: &mut Cards,
-        number: u64,
-    ) -> anyhow::Result<Replies> {
-        let mut sealed = self.fetch(rt, cards)?;
-        let left = self.open(rt.alloc(), number, sealed.left.as_mut_slice())?;
-        let right = self.open(rt.alloc(), number, sealed.right.as_mut_slice())?;
-        let left_words = told(rt.alloc(), left.as_slice())?;
-        let right_words = told(rt.alloc(), right.as_slice())?;
-        println!(rt; "  left  opens to {left_words}")?;
-        println!(rt; "  right opens to {right_words}")?;
+    pub fn answers(&self, cards: &mut Cards<'_>, number: u64) -> anyhow::Result<Replies> {
+        let mut sealed = self.fetch(cards)?;
+        let left = self.open(cards.rt.alloc(), number, sealed.left.as_mut_slice())?;
+        let right = self.open(cards.rt.alloc(), number, sealed.right.as_mut_slice())?;
+        let left_words = told(cards.rt.alloc(), left.as_slice())?;
+        let right_words = told(cards.rt.alloc(), right.as_slice())?;
+        println!(cards.rt; "  left  opens to {left_words}")?;
+        println!(cards.rt; "  right opens to {right_words}")?;
         Ok(Replies { left, right })
     }
-}
-
-// A reply's data behind what was fetched before.
-fn joined(bytes: Vec<u8>, reply: &[u8]) -> Result<Vec<u8>, AllocError> {
-    let mut all = bytes;
-    all.extend_from_slice(data_of(reply))?;
-    Ok(all)
 }

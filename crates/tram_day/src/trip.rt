@@ -1,20 +1,20 @@
 // The tram is out: fares, a receipt, and the depot's total.
 use crate::cards::Cards;
-use crate::fare::Paid;
 use crate::line::{data_of, send};
 use crate::talk::{Channel, Sent};
-use anyhow::anyhow;
+use anyhow::{Context, ensure};
+use fares::Fare;
 use sealer::RealSealer;
 use sealing::Sealer;
 use std::alloc::{AllocError, Global};
 
 // The first and the second fare of the day.
-const FIRST: Paid = Paid {
+const FIRST: Fare = Fare {
     class: 3,
     amount: 300,
 };
 
-const SECOND: Paid = Paid {
+const SECOND: Fare = Fare {
     class: 0,
     amount: 250,
 };
@@ -27,30 +27,23 @@ const TOTAL: [u8; 5] = [0x00, 0xCA, 0x00, 0x00, 0x00];
 
 // Notes that a command was accepted; its number.
 fn accept(channel: &mut Channel, sent: &Sent) -> anyhow::Result<u64> {
-    if !sent.complete {
-        return Err(anyhow!("the card did not accept the command"));
-    }
+    ensure!(sent.complete, "the card did not accept the command");
     let number = channel.connection.next();
     channel.connection.accepted();
     Ok(number)
 }
 
 // A fare, its last block sent twice: it is booked once.
-pub fn first_fare(
-    rt: &HostRuntime,
-    cards: &mut Cards,
-    channel: &mut Channel,
-) -> anyhow::Result<()> {
-    let fare = FIRST.words(rt.alloc())?;
-    println!(rt; "")?;
-    println!(rt; "A fare of {fare}; its last block is sent twice, and it is booked once")?;
+pub fn first_fare(cards: &mut Cards<'_>, channel: &mut Channel) -> anyhow::Result<()> {
+    println!(cards.rt; "")?;
+    println!(cards.rt; "A fare of {FIRST}; its last block is sent twice, and it is booked once")?;
     let string = channel
         .connection
-        .seal(rt.alloc(), &RealSealer, &FIRST.command())?;
-    let sent = channel.send(rt, cards, string.as_slice())?;
-    let _again = send(rt, cards, sent.last.as_slice())?;
+        .seal(cards.rt.alloc(), &RealSealer, &FIRST.command())?;
+    let sent = channel.send(cards, string.as_slice())?;
+    let _again = send(cards, sent.last.as_slice())?;
     let number = accept(channel, &sent)?;
-    let _replies = channel.answers(rt, cards, number)?;
+    let _replies = channel.answers(cards, number)?;
     Ok(())
 }
 
@@ -64,66 +57,60 @@ fn damaged(heap: Global, string: &[u8]) -> Result<Vec<u8>, AllocError> {
 }
 
 // A fare that is damaged on its way, refused, and sent once more.
-pub fn second_fare(
-    rt: &HostRuntime,
-    cards: &mut Cards,
-    channel: &mut Channel,
-) -> anyhow::Result<()> {
-    let fare = SECOND.words(rt.alloc())?;
-    println!(rt; "")?;
-    println!(rt; "A fare of {fare}; one bit is damaged on the way, and it is sent again")?;
+pub fn second_fare(cards: &mut Cards<'_>, channel: &mut Channel) -> anyhow::Result<()> {
+    println!(cards.rt; "")?;
+    println!(cards.rt; "A fare of {SECOND}; one bit is damaged on the way, and it is sent again")?;
     let string = channel
         .connection
-        .seal(rt.alloc(), &RealSealer, &SECOND.command())?;
-    let wrong = damaged(rt.alloc(), string.as_slice())?;
-    let _refused = channel.send(rt, cards, wrong.as_slice())?;
-    let sent = channel.send(rt, cards, string.as_slice())?;
+        .seal(cards.rt.alloc(), &RealSealer, &SECOND.command())?;
+    let wrong = damaged(cards.rt.alloc(), string.as_slice())?;
+    let _refused = channel.send(cards, wrong.as_slice())?;
+    let sent = channel.send(cards, string.as_slice())?;
     let _number = accept(channel, &sent)?;
     Ok(())
 }
 
 // A record for the record file, which the fare counter does not know.
-pub fn receipt(rt: &HostRuntime, cards: &mut Cards, channel: &mut Channel) -> anyhow::Result<()> {
-    println!(rt; "")?;
-    println!(rt; "A receipt for the record file")?;
-    let string = channel.connection.seal(rt.alloc(), &RealSealer, &RECEIPT)?;
-    let sent = channel.send(rt, cards, string.as_slice())?;
+pub fn receipt(cards: &mut Cards<'_>, channel: &mut Channel) -> anyhow::Result<()> {
+    println!(cards.rt; "")?;
+    println!(cards.rt; "A receipt for the record file")?;
+    let string = channel
+        .connection
+        .seal(cards.rt.alloc(), &RealSealer, &RECEIPT)?;
+    let sent = channel.send(cards, string.as_slice())?;
     let number = accept(channel, &sent)?;
-    let _replies = channel.answers(rt, cards, number)?;
+    let _replies = channel.answers(cards, number)?;
     Ok(())
 }
 
 // The sum that the fare counter replies.
 fn sum_of(reply: &[u8]) -> Option<u64> {
-    match data_of(reply) {
-        [a, b, c, d, e, f, g, h] => Some(u64::from_be_bytes([*a, *b, *c, *d, *e, *f, *g, *h])),
-        _ => None,
-    }
+    Some(u64::from_be_bytes(*data_of(reply).as_array()?))
 }
 
 // The depot asks for the sum of the day's fares; then the answer is discarded.
-pub fn total(rt: &HostRuntime, cards: &mut Cards, channel: &mut Channel) -> anyhow::Result<()> {
-    println!(rt; "")?;
-    println!(rt; "The depot asks for the total, and discards the answer")?;
-    let string = channel.connection.seal(rt.alloc(), &RealSealer, &TOTAL)?;
-    let sent = channel.send(rt, cards, string.as_slice())?;
+pub fn total(cards: &mut Cards<'_>, channel: &mut Channel) -> anyhow::Result<()> {
+    println!(cards.rt; "")?;
+    println!(cards.rt; "The depot asks for the total, and discards the answer")?;
+    let string = channel
+        .connection
+        .seal(cards.rt.alloc(), &RealSealer, &TOTAL)?;
+    let sent = channel.send(cards, string.as_slice())?;
     let number = accept(channel, &sent)?;
-    let replies = channel.answers(rt, cards, number)?;
-    let Some(sum) = sum_of(replies.left.as_slice()) else {
-        return Err(anyhow!("the card gave no total"));
-    };
-    println!(rt; "  the total is {sum}")?;
-    let _discarded = send(rt, cards, &channel.session.discard())?;
+    let replies = channel.answers(cards, number)?;
+    let sum = sum_of(replies.left.as_slice()).context("the card gave no total")?;
+    println!(cards.rt; "  the total is {sum}")?;
+    let _discarded = send(cards, &channel.session.discard())?;
     Ok(())
 }
 
 // One command more than the connection may accept.
-pub fn beyond(rt: &HostRuntime, cards: &mut Cards, channel: &Channel) -> anyhow::Result<()> {
-    println!(rt; "")?;
-    println!(rt; "One fare more than the connection may carry: it is removed")?;
+pub fn beyond(cards: &mut Cards<'_>, channel: &Channel) -> anyhow::Result<()> {
+    println!(cards.rt; "")?;
+    println!(cards.rt; "One fare more than the connection may carry: it is removed")?;
     let string = channel
         .connection
-        .seal(rt.alloc(), &RealSealer, &FIRST.command())?;
-    let _refused = channel.send(rt, cards, string.as_slice())?;
+        .seal(cards.rt.alloc(), &RealSealer, &FIRST.command())?;
+    let _refused = channel.send(cards, string.as_slice())?;
     Ok(())
 }
