@@ -1,2 +1,3 @@
 pub mod Outcomes
 pub mod Carried
+pub mod Passed

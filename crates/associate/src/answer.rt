@@ -12,20 +12,14 @@ use replies::reply::Reply;
 pub fn with_object(reply: Result<Reply, Status>) -> Result<Buffer, Status>
     ensures { sent result ≡ replied reply }
 {
-    match reply {
-        Ok(reply) => Ok(object(&reply)),
-        Err(status) => Err(status),
-    }
+    reply.map(|reply| object(&reply))
 }
 
 // No object: nothing is replied to a termination.
 pub fn without_object(end: Result<(), Status>) -> Result<Buffer, Status>
     ensures { sent result ≡ ended end }
 {
-    match end {
-        Ok(()) => Ok(Buffer::new()),
-        Err(status) => Err(status),
-    }
+    end.map(|()| Buffer::new())
 }
 
 // The bytes of a reply's object.

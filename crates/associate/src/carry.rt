@@ -24,14 +24,14 @@ pub fn carry_out(
     tables: &mut Tables,
     kind: Kind,
     value: &[u8],
-    random: &[u8],
+    random: &[u8; 32],
     area: &mut [u8],
 ) -> Result<Buffer, Status>
-    requires random { length random.now ≡ 32 }
-    requires area { 64 ≤ length area.old }
+    requires { 64 ≤ length area.old }
     ensures outcome { outcome keyed (tables_of tables.old) random.now (asked (kind_of kind) value.now) ≡ done (tables_of tables.new) (sent result) }
     ensures answers { Keeps tables.old tables.new }
 {
+    let area = area.first_chunk_mut::<64>().unwrap();
     match kind {
         Kind::Discovery => Err(Status::WrongData),
         Kind::Master => carry_master(tables, value, random),
@@ -42,8 +42,7 @@ pub fn carry_out(
 }
 
 // Establishes a master, as an object asks.
-fn carry_master(tables: &mut Tables, value: &[u8], random: &[u8]) -> Result<Buffer, Status>
-    requires { length random.now ≡ 32 }
+fn carry_master(tables: &mut Tables, value: &[u8], random: &[u8; 32]) -> Result<Buffer, Status>
     ensures outcome { outcome keyed (tables_of tables.old) random.now (asked_master value.now) ≡ done (tables_of tables.new) (sent result) }
     ensures answers { Keeps tables.old tables.new }
 {
@@ -57,11 +56,9 @@ fn carry_master(tables: &mut Tables, value: &[u8], random: &[u8]) -> Result<Buff
 fn carry_connection(
     tables: &mut Tables,
     value: &[u8],
-    random: &[u8],
-    area: &mut [u8],
+    random: &[u8; 32],
+    area: &mut [u8; 64],
 ) -> Result<Buffer, Status>
-    requires random { length random.now ≡ 32 }
-    requires area { 64 ≤ length area.old }
     ensures outcome { outcome keyed (tables_of tables.old) random.now (asked_connection value.now) ≡ done (tables_of tables.new) (sent result) }
     ensures answers { Keeps tables.old tables.new }
 {
@@ -72,8 +69,7 @@ fn carry_connection(
 }
 
 // Starts a session, as an object asks.
-fn carry_start(tables: &mut Tables, value: &[u8], area: &mut [u8]) -> Result<Buffer, Status>
-    requires { 64 ≤ length area.old }
+fn carry_start(tables: &mut Tables, value: &[u8], area: &mut [u8; 64]) -> Result<Buffer, Status>
     ensures outcome { (random : List ℕ) → outcome keyed (tables_of tables.old) random (asked_start value.now) ≡ done (tables_of tables.new) (sent result) }
     ensures answers { Keeps tables.old tables.new }
 {
@@ -84,8 +80,7 @@ fn carry_start(tables: &mut Tables, value: &[u8], area: &mut [u8]) -> Result<Buf
 }
 
 // Terminates a master or a connection, as an object asks.
-fn carry_end(tables: &mut Tables, value: &[u8], area: &mut [u8]) -> Result<Buffer, Status>
-    requires { 64 ≤ length area.old }
+fn carry_end(tables: &mut Tables, value: &[u8], area: &mut [u8; 64]) -> Result<Buffer, Status>
     ensures outcome { (random : List ℕ) → outcome keyed (tables_of tables.old) random (asked_end value.now) ≡ done (tables_of tables.new) (sent result) }
     ensures answers { Keeps tables.old tables.new }
 {

@@ -1,5 +1,5 @@
 // The reply that confirms a new connection.
-ghost use Rattle.std.specs.Prelude.{◌≡◌, ◌≤◌, length, Some, None};
+ghost use Rattle.std.specs.Prelude.{◌≡◌, Some, None};
 ghost use Rattle.replies.specs.Reply.{reply_object};
 ghost use Rattle.law.specs.Associations.{mac_of};
 ghost use Rattle.law.specs.Associate.{new_connection, suite_reply};
@@ -7,8 +7,8 @@ ghost use Rattle.tables.specs.View.{at_of, master_of, connection_of};
 ghost use Rattle.law.specs.Hashes.{keyed};
 ghost use Rattle.associate.specs.Said.{said, confirmed};
 
-use crate::derive::{new_connection, nonce, sixteen};
-use hmac::Hmac;
+use crate::derive::{new_connection, nonce};
+use hmac::mac_joined;
 use objects::request::ConnectionRequest;
 use replies::reply::{ConnectionReply, Reply};
 use sealing::Suite;
@@ -19,24 +19,20 @@ pub fn confirmed_connection(
     master: &At<Master>,
     suite: Suite,
     request: &ConnectionRequest<'_>,
-    random: &[u8],
-    area: &mut [u8],
+    random: &[u8; 32],
+    area: &mut [u8; 64],
 ) -> (Connection, Reply)
-    requires random { length random.now ≡ 32 }
-    requires area { 64 ≤ length area.old }
     ensures connection { connection_of result.0 ≡ new_connection keyed random.now request.now.nonce.now suite (at_of master_of master.now) }
     ensures unstarted { result.0.session ≡ None }
     ensures reply { reply_object result.1 ≡ suite_reply keyed random.now request.now.master.now request.now.nonce.now request.now.ciphers request.now.mechanisms (at_of master_of master.now) (Some suite) }
 {
-    let terminal_nonce = request.nonce;
-    let connection = new_connection(master, suite, random, terminal_nonce, area);
+    let connection = new_connection(master, suite, random, request.nonce, area);
     let reply = confirm(&connection, request, random);
     (connection, reply)
 }
 
 // The reply of a new connection, with the code over what both sides have said.
-fn confirm(connection: &Connection, request: &ConnectionRequest<'_>, random: &[u8]) -> Reply
-    requires { length random.now ≡ 32 }
+fn confirm(connection: &Connection, request: &ConnectionRequest<'_>, random: &[u8; 32]) -> Reply
     ensures { result ≡ confirmed connection.now.id connection.now.suite connection.now.mac request.now random.now }
 {
     let suite = connection.suite;
@@ -53,10 +49,9 @@ fn confirm(connection: &Connection, request: &ConnectionRequest<'_>, random: &[u
 fn connection_mac(
     key: &[u8],
     request: &ConnectionRequest<'_>,
-    random: &[u8],
+    random: &[u8; 32],
     suite: Suite,
 ) -> [u8; 16]
-    requires { length random.now ≡ 32 }
     ensures { result ≡ mac_of keyed key.now (said request.now random.now suite) }
 {
     let ConnectionRequest {
@@ -65,13 +60,16 @@ fn connection_mac(
         ciphers,
         mechanisms,
     } = *request;
-    let mut code = Hmac::new(key);
-    code.update(master);
-    code.update(nonce);
-    code.update(&[ciphers, mechanisms]);
-    code.update(&random[0..16]);
-    code.update(&random[16..32]);
-    code.update(&[u8::from(suite.cipher), u8::from(suite.mechanism)]);
-    let whole = code.finish();
-    sixteen(&whole[0..16])
+    let code = mac_joined(
+        key,
+        &[
+            &master[..],
+            &nonce[..],
+            &[ciphers, mechanisms],
+            &random[..16],
+            &random[16..32],
+            &[u8::from(suite.cipher), u8::from(suite.mechanism)],
+        ],
+    );
+    *code[..16].as_array().unwrap()
 }

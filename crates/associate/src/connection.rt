@@ -1,11 +1,11 @@
 // Establishing a connection.
-ghost use Rattle.std.specs.Prelude.{◌≡◌, ◌≤◌, length};
+ghost use Rattle.std.specs.Prelude.{◌≡◌};
 ghost use Rattle.law.specs.Hashes.{keyed};
 ghost use Rattle.tables.specs.View.{tables_of};
 ghost use Rattle.associate.specs.Outcome.{done, replied, Kept};
 ghost use Rattle.associate.specs.Steps.{connection_steps};
 
-use crate::check::{below, new_connection_id};
+use crate::check::{below, unused};
 use crate::confirm::confirmed_connection;
 use crate::suite::common;
 use apdu::Status;
@@ -18,11 +18,9 @@ use tables::{Connection, Master, Tables};
 pub fn establish_connection(
     tables: &mut Tables,
     request: &ConnectionRequest<'_>,
-    random: &[u8],
-    area: &mut [u8],
+    random: &[u8; 32],
+    area: &mut [u8; 64],
 ) -> Result<Reply, Status>
-    requires random { length random.now ≡ 32 }
-    requires area { 64 ≤ length area.old }
     ensures steps { connection_steps keyed (tables_of tables.old) random.now request.now.master.now request.now.nonce.now request.now.ciphers request.now.mechanisms ≡ done (tables_of tables.new) (replied result) }
     ensures answers { Kept tables.old tables.new }
 {
@@ -40,7 +38,7 @@ pub fn establish_connection(
     let Some(row) = tables.free::<Connection>() else {
         return Err(Status::NoRoom);
     };
-    let Some(()) = new_connection_id(tables, random) else {
+    let Some(()) = unused::<Connection>(tables, random) else {
         return Err(Status::NotPossible);
     };
     let (connection, reply) = confirmed_connection(&master, suite, request, random, area);

@@ -1,5 +1,5 @@
 // What a new master and a new connection are made of.
-ghost use Rattle.std.specs.Prelude.{◌≡◌, ◌+◌, ◌≤◌, length, None};
+ghost use Rattle.std.specs.Prelude.{◌≡◌, None};
 ghost use Rattle.law.specs.Associations.{new_master, id_of, nonce_of, material};
 ghost use Rattle.law.specs.Associate.{new_connection};
 ghost use Rattle.law.specs.Hashes.{keyed};
@@ -12,46 +12,21 @@ use table_rows::Row;
 use tables::{At, Connection, Key, Master};
 
 // The identifier that random bytes make.
-pub fn identifier(random: &[u8]) -> [u8; 16]
-    requires { length random.now ≡ 32 }
-    ensures is { result ≡ id_of random.now }
-    ensures long { length result ≡ 16 }
+pub fn identifier(random: &[u8; 32]) -> [u8; 16]
+    ensures { result ≡ id_of random.now }
 {
-    sixteen(&random[0..16])
+    *random[..16].as_array().unwrap()
 }
 
 // The nonce that random bytes make.
-pub fn nonce(random: &[u8]) -> [u8; 16]
-    requires { length random.now ≡ 32 }
-    ensures is { result ≡ nonce_of random.now }
-    ensures long { length result ≡ 16 }
+pub fn nonce(random: &[u8; 32]) -> [u8; 16]
+    ensures { result ≡ nonce_of random.now }
 {
-    sixteen(&random[16..32])
-}
-
-// These 16 bytes.
-pub fn sixteen(bytes: &[u8]) -> [u8; 16]
-    requires { length bytes.now ≡ 16 }
-    ensures { result ≡ bytes.now }
-{
-    let mut copy = [0; 16];
-    copy.copy_from_slice(bytes);
-    copy
-}
-
-// These 40 bytes.
-fn forty(bytes: &[u8]) -> [u8; 40]
-    requires { length bytes.now ≡ 40 }
-    ensures { result ≡ bytes.now }
-{
-    let mut copy = [0; 40];
-    copy.copy_from_slice(bytes);
-    copy
+    *random[16..32].as_array().unwrap()
 }
 
 // The new master under a key.
-pub fn new_master(key: &At<Key>, random: &[u8]) -> Master
-    requires { length random.now ≡ 32 }
+pub fn new_master(key: &At<Key>, random: &[u8; 32]) -> Master
     ensures { master_of result ≡ new_master keyed random.now key.now.row (key_of key.now.item) }
 {
     let id = identifier(random);
@@ -64,34 +39,29 @@ pub fn new_master(key: &At<Key>, random: &[u8]) -> Master
 }
 
 // Writes the bytes that a connection's keys are cut from.
-fn material(master: &Master, random: &[u8], nonce: &[u8], area: &mut [u8])
-    requires random { length random.now ≡ 32 }
-    requires area { length area.old ≡ 64 }
+fn material(master: &Master, random: &[u8; 32], nonce: &[u8; 16], area: &mut [u8; 64])
     ensures { area.new ≡ material keyed (master_of master.now) random.now nonce.now }
 {
-    area.copy_from_slice(&expand(&master.secret, &[&random[16..32], nonce]));
+    *area = expand(&master.secret, &[&random[16..32], nonce]);
 }
 
 // The new connection under a master. Its keys are worked out in the area.
 pub fn new_connection(
     master: &At<Master>,
     suite: Suite,
-    random: &[u8],
-    nonce: &[u8],
-    area: &mut [u8],
+    random: &[u8; 32],
+    nonce: &[u8; 16],
+    area: &mut [u8; 64],
 ) -> Connection
-    requires random { length random.now ≡ 32 }
-    requires area { 64 ≤ length area.old }
     ensures is { connection_of result ≡ new_connection keyed random.now nonce.now suite (at_of master_of master.now) }
     ensures unstarted { result.session ≡ None }
 {
-    material(&master.item, random, nonce, &mut area[0..64]);
-    unstarted(identifier(random), master.row, suite, &area[0..64])
+    material(&master.item, random, nonce, area);
+    unstarted(identifier(random), master.row, suite, area)
 }
 
 // A connection that is not started, with its keys cut from the material.
-fn unstarted(id: [u8; 16], master: Row, suite: Suite, material: &[u8]) -> Connection
-    requires { length material.now ≡ 64 }
+fn unstarted(id: [u8; 16], master: Row, suite: Suite, material: &[u8; 64]) -> Connection
     ensures is { connection_of result ≡ cut id master suite material.now }
     ensures unstarted { result.session ≡ None }
 {
@@ -99,8 +69,8 @@ fn unstarted(id: [u8; 16], master: Row, suite: Suite, material: &[u8]) -> Connec
         id,
         master,
         suite,
-        mac: sixteen(&material[0..16]),
-        keys: forty(&material[16..56]),
+        mac: *material[..16].as_array().unwrap(),
+        keys: *material[16..56].as_array().unwrap(),
         count: 0,
         session: None,
     }

@@ -1,7 +1,6 @@
 // Judging the codes that a terminal sends.
-ghost use Rattle.std.specs.Prelude.{◌≡◌, ◌≤◌, [], ◌∷◌, ◌++◌, length, take};
+ghost use Rattle.std.specs.Prelude.{◌≡◌, [], ◌∷◌, ◌++◌, take};
 ghost use Rattle.law.specs.Associations.{mac_of};
-ghost use Rattle.law.specs.Rows.{same_bytes};
 ghost use Rattle.law.specs.Hashes.{keyed};
 ghost use Rattle.associate.specs.Checks.{passes};
 
@@ -9,40 +8,36 @@ use hmac::{mac, mac_joined};
 use secret::same;
 
 // Passes the code of a start: over the identifier and the container's size.
-pub fn start_mac(key: &[u8], id: &[u8], container: u8, given: &[u8], area: &mut [u8]) -> Option<()>
-    requires { 64 ≤ length area.old }
+pub fn start_mac(
+    key: &[u8],
+    id: &[u8],
+    container: u8,
+    given: &[u8],
+    area: &mut [u8; 64],
+) -> Option<()>
     ensures { result ≡ passes (mac_of keyed key.now (id.now ++ container ∷ [])) given.now }
 {
     is_code(&mac_joined(key, &[id, &[container]]), given, area)
 }
 
 // Passes the code of a termination: over the identifier.
-pub fn end_mac(key: &[u8], id: &[u8], given: &[u8], area: &mut [u8]) -> Option<()>
-    requires { 64 ≤ length area.old }
+pub fn end_mac(key: &[u8], id: &[u8], given: &[u8], area: &mut [u8; 64]) -> Option<()>
     ensures { result ≡ passes (mac_of keyed key.now id.now) given.now }
 {
     is_code(&mac(key, id), given, area)
 }
 
-// Passes what was given where it is the code's first 16 bytes.
-fn is_code(code: &[u8; 32], given: &[u8], area: &mut [u8]) -> Option<()>
-    requires { 64 ≤ length area.old }
+// Passes what was given where it is the code's first 16 bytes. All of them are looked at.
+fn is_code(code: &[u8; 32], given: &[u8], area: &mut [u8; 64]) -> Option<()>
     ensures { result ≡ passes (take 16 code.now) given.now }
 {
-    area[0..16].copy_from_slice(&code[0..16]);
-    equal(&area[0..16], given)
+    area[..16].copy_from_slice(&code[..16]);
+    equal(&area[..16], given)
 }
 
-// Passes equal bytes. All of them are looked at.
+// Passes equal bytes.
 fn equal(code: &[u8], given: &[u8]) -> Option<()>
     ensures { result ≡ passes code.now given.now }
 {
-    if is_same(code, given) { Some(()) } else { None }
-}
-
-// Whether the two hold the same bytes.
-fn is_same(code: &[u8], given: &[u8]) -> bool
-    ensures { result ≡ same_bytes code.now given.now }
-{
-    same(code, given)
+    same(code, given).then_some(())
 }

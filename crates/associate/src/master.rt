@@ -1,11 +1,11 @@
 // Establishing a master.
-ghost use Rattle.std.specs.Prelude.{◌≡◌, length};
+ghost use Rattle.std.specs.Prelude.{◌≡◌};
 ghost use Rattle.law.specs.Hashes.{keyed};
 ghost use Rattle.tables.specs.View.{tables_of};
 ghost use Rattle.associate.specs.Outcome.{done, replied, Kept};
 ghost use Rattle.associate.specs.Steps.{master_steps};
 
-use crate::check::{agreed, below, new_master_id};
+use crate::check::{agreed, below, unused};
 use crate::derive::new_master;
 use apdu::Status;
 use objects::request::MasterRequest;
@@ -17,9 +17,8 @@ use tables::{Key, Master, Tables};
 pub fn establish_master(
     tables: &mut Tables,
     request: &MasterRequest<'_>,
-    random: &[u8],
+    random: &[u8; 32],
 ) -> Result<Reply, Status>
-    requires { length random.now ≡ 32 }
     ensures steps { master_steps keyed (tables_of tables.old) random.now request.now.reference.now request.now.mechanisms ≡ done (tables_of tables.new) (replied result) }
     ensures answers { Kept tables.old tables.new }
 {
@@ -39,7 +38,7 @@ pub fn establish_master(
     let Some(row) = tables.free::<Master>() else {
         return Err(Status::NoRoom);
     };
-    let Some(()) = new_master_id(tables, random) else {
+    let Some(()) = unused::<Master>(tables, random) else {
         return Err(Status::NotPossible);
     };
     let master = new_master(&key, random);

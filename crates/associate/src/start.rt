@@ -1,5 +1,5 @@
 // Starting a connection's session.
-ghost use Rattle.std.specs.Prelude.{◌≡◌, ◌*◌, ◌<◌, ◌≤◌, length};
+ghost use Rattle.std.specs.Prelude.{◌≡◌, ◌*◌};
 ghost use Rattle.law.specs.Hashes.{keyed};
 ghost use Rattle.tables.specs.View.{tables_of};
 ghost use Rattle.associate.specs.Outcome.{done, replied, Kept};
@@ -18,9 +18,8 @@ use tables::{Connection, Tables};
 pub fn start(
     tables: &mut Tables,
     request: &StartRequest<'_>,
-    area: &mut [u8],
+    area: &mut [u8; 64],
 ) -> Result<Reply, Status>
-    requires { 64 ≤ length area.old }
     ensures steps { start_steps keyed (tables_of tables.old) request.now.connection.now request.now.container request.now.mac.now ≡ done (tables_of tables.new) (replied result) }
     ensures answers { Kept tables.old tables.new }
 {

@@ -16,13 +16,10 @@ pub fn has_bit(bits: u8, weight: u8) -> bool
 pub fn common(ciphers: u8, mechanisms: u8) -> Option<Suite>
     ensures { result ≡ common ciphers mechanisms }
 {
-    let Some(cipher) = common_cipher(ciphers) else {
-        return None;
-    };
-    let Some(mechanism) = common_mechanism(mechanisms) else {
-        return None;
-    };
-    Some(Suite { cipher, mechanism })
+    Some(Suite {
+        cipher: common_cipher(ciphers)?,
+        mechanism: common_mechanism(mechanisms)?,
+    })
 }
 
 // The cipher of the highest bit in common.

@@ -1,5 +1,5 @@
 // Terminating a master or a connection.
-ghost use Rattle.std.specs.Prelude.{◌≡◌, ◌≤◌, length};
+ghost use Rattle.std.specs.Prelude.{◌≡◌};
 ghost use Rattle.law.specs.Hashes.{keyed};
 ghost use Rattle.tables.specs.View.{tables_of};
 ghost use Rattle.associate.specs.Outcome.{done, ended, Kept};
@@ -14,9 +14,8 @@ use tables::{Connection, Master, Tables};
 pub fn terminate(
     tables: &mut Tables,
     request: &EndRequest<'_>,
-    area: &mut [u8],
+    area: &mut [u8; 64],
 ) -> Result<(), Status>
-    requires { 64 ≤ length area.old }
     ensures steps { end_steps keyed (tables_of tables.old) request.now.named request.now.mac.now ≡ done (tables_of tables.new) (ended result) }
     ensures answers { Kept tables.old tables.new }
 {
@@ -27,9 +26,9 @@ pub fn terminate(
     }
 }
 
-// Ends a master, and with it its connections.
-fn end_master(tables: &mut Tables, id: &[u8], mac: &[u8], area: &mut [u8]) -> Result<(), Status>
-    requires { 64 ≤ length area.old }
+// Ends a master, and with it its connections. (Ending a connection is a text of its own: a trait with the key, the
+// identifier and the removal of each would be longer than the two.)
+fn end_master(tables: &mut Tables, id: &[u8], mac: &[u8], area: &mut [u8; 64]) -> Result<(), Status>
     ensures steps { end_master_steps keyed (tables_of tables.old) id.now mac.now ≡ done (tables_of tables.new) (ended result) }
     ensures answers { Kept tables.old tables.new }
 {
@@ -44,8 +43,12 @@ fn end_master(tables: &mut Tables, id: &[u8], mac: &[u8], area: &mut [u8]) -> Re
 }
 
 // Ends a connection.
-fn end_connection(tables: &mut Tables, id: &[u8], mac: &[u8], area: &mut [u8]) -> Result<(), Status>
-    requires { 64 ≤ length area.old }
+fn end_connection(
+    tables: &mut Tables,
+    id: &[u8],
+    mac: &[u8],
+    area: &mut [u8; 64],
+) -> Result<(), Status>
     ensures steps { end_connection_steps keyed (tables_of tables.old) id.now mac.now ≡ done (tables_of tables.new) (ended result) }
     ensures answers { Kept tables.old tables.new }
 {

@@ -6,4 +6,4 @@ use Rattle.associate.proofs.derive.material.Goals as goal
 pub returns : goal.returns
 returns c =
     let own = take 16 (drop 16 c.args.random.now) in
-    c.copy_from_slice.ensures.after ∙ c.expand.ensures ∙ ap (λ y. expanded c.args.master.now.secret (own ++ y)) (append-nil c.args.nonce.now)
+    c.expand.ensures ∙ ap (λ y. expanded c.args.master.now.secret (own ++ y)) (append-nil c.args.nonce.now)
