@@ -8,7 +8,7 @@ use std::alloc::{AllocError, Global};
 // Whether a byte of the reply buffer was touched behind the reply, or at all where there is none.
 fn touches_buffer(done: &Done) -> bool {
     let from = match done.answer {
-        Answer::Replied(n) => n,
+        Answer::Replied(Ok(n)) => n,
         _ => 0,
     };
     match done.buffer.as_slice().get(from..) {
@@ -20,7 +20,7 @@ fn touches_buffer(done: &Done) -> bool {
 // Whether the work area is not zero behind a reply, or was touched where there is none.
 fn touches_work(done: &Done) -> bool {
     match done.answer {
-        Answer::Replied(_) => !all_are(done.work.as_slice(), 0),
+        Answer::Replied(Ok(_)) => !all_are(done.work.as_slice(), 0),
         _ => !all_are(done.work.as_slice(), FILL),
     }
 }
@@ -30,9 +30,16 @@ fn side(heap: Global, done: &Done) -> Result<String, AllocError> {
     match done.answer {
         Answer::NotTaken => String::from_str(heap, "-"),
         Answer::Powered => String::from_str(heap, "+"),
-        Answer::Loaded(n) => format!(in heap; "{n}"),
-        Answer::Refused(n) => format!(in heap; "!{n}"),
-        Answer::Replied(n) => joined(heap, done.buffer.as_slice().get(0..n).unwrap_or(&[])),
+        Answer::Loaded(Ok(())) => String::from_str(heap, "0"),
+        Answer::Loaded(Err(refusal)) => {
+            let n = u8::from(refusal);
+            format!(in heap; "{n}")
+        }
+        Answer::Replied(Err(refusal)) => {
+            let n = u8::from(refusal);
+            format!(in heap; "!{n}")
+        }
+        Answer::Replied(Ok(n)) => joined(heap, done.buffer.as_slice().get(0..n).unwrap_or(&[])),
     }
 }
 
@@ -74,7 +81,10 @@ pub fn answer_line(
     match (left.answer, right.answer) {
         (Answer::NotTaken, Answer::NotTaken) => String::from_str(heap, "not taken"),
         (Answer::Powered, Answer::Powered) => String::from_str(heap, name(step)),
-        (Answer::Loaded(n), Answer::Loaded(m)) if n == m => format!(in heap; "load {n}"),
+        (Answer::Loaded(load), Answer::Loaded(other)) if load == other => {
+            let n = side(heap, left)?;
+            format!(in heap; "load {n}")
+        }
         _ => both(heap, step, left, right),
     }
 }

@@ -38,7 +38,8 @@ fn new_pair() -> Pair<RealSealer, FareCounter, RecordFile> {
 // The number that a card answers to a load.
 fn loaded(done: &Done) -> anyhow::Result<u8> {
     match done.answer {
-        Answer::Loaded(number) => Ok(number),
+        Answer::Loaded(Ok(())) => Ok(0),
+        Answer::Loaded(Err(refusal)) => Ok(u8::from(refusal)),
         _ => Err(anyhow!("the card takes no load")),
     }
 }
@@ -54,7 +55,7 @@ fn powered(done: &Done) -> anyhow::Result<()> {
 // The reply that a card writes to its buffer.
 fn reply(heap: Global, done: &Done) -> anyhow::Result<Vec<u8>> {
     match done.answer {
-        Answer::Replied(len) => match done.buffer.as_slice().get(0..len) {
+        Answer::Replied(Ok(len)) => match done.buffer.as_slice().get(0..len) {
             Some(bytes) => Ok(Vec::from_slice(heap, bytes)?),
             None => Err(anyhow!("a reply longer than its buffer")),
         },
