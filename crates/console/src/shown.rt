@@ -8,7 +8,7 @@ use std::fmt;
 // Whether a byte of the reply buffer was touched behind the reply, or at all where there is none.
 fn touches_buffer(done: &Done) -> bool {
     let from = match done.answer {
-        Answer::Replied(n) => n,
+        Answer::Replied(Ok(n)) => n,
         _ => 0,
     };
     let behind = done.buffer.as_slice().get(from..);
@@ -18,7 +18,7 @@ fn touches_buffer(done: &Done) -> bool {
 // Whether the work area is not zero behind a reply, or was touched where there is none.
 fn touches_work(done: &Done) -> bool {
     let left = match done.answer {
-        Answer::Replied(_) => 0,
+        Answer::Replied(Ok(_)) => 0,
         _ => FILL,
     };
     !all_are(done.work.as_slice(), left)
@@ -44,9 +44,16 @@ impl fmt::Display for Side<'_> {
         match done.answer {
             Answer::NotTaken => f.write_str("-"),
             Answer::Powered => f.write_str("+"),
-            Answer::Loaded(n) => write!(f, "{n}"),
-            Answer::Refused(n) => write!(f, "!{n}"),
-            Answer::Replied(n) => {
+            Answer::Loaded(Ok(())) => f.write_str("0"),
+            Answer::Loaded(Err(refusal)) => {
+                let number = u8::from(refusal);
+                write!(f, "{number}")
+            }
+            Answer::Replied(Err(refusal)) => {
+                let number = u8::from(refusal);
+                write!(f, "!{number}")
+            }
+            Answer::Replied(Ok(n)) => {
                 let reply = JoinedPairs(done.buffer.as_slice().get(0..n).unwrap_or(&[]));
                 write!(f, "{reply}")
             }
@@ -83,7 +90,10 @@ impl fmt::Display for AnswerLine<'_> {
         match (self.left.answer, self.right.answer) {
             (Answer::NotTaken, Answer::NotTaken) => f.write_str("not taken"),
             (Answer::Powered, Answer::Powered) => f.write_str(name(self.step)),
-            (Answer::Loaded(n), Answer::Loaded(m)) if n == m => write!(f, "load {n}"),
+            (Answer::Loaded(left), Answer::Loaded(right)) if left == right => {
+                let answer = Side(self.left);
+                write!(f, "load {answer}")
+            }
             _ => self.both(f),
         }
     }

@@ -1,5 +1,4 @@
 // The card that is measured: a fare counter behind the real sealer.
-use anyhow::anyhow;
 use card::{Off, Powered};
 use fares::FareCounter;
 use sealer::RealSealer;
@@ -28,10 +27,8 @@ impl Host {
 // A powered card that requires the channel and holds the key.
 pub fn new_card() -> anyhow::Result<Powered<RealSealer, FareCounter>> {
     let mut card = Off::new(RealSealer, FareCounter::new(), true);
-    match card.load(KEY) {
-        Ok(()) => Ok(card.power_on()),
-        Err(refusal) => Err(anyhow!(refusal.words())),
-    }
+    card.load(KEY)?;
+    Ok(card.power_on())
 }
 
 // Sends a command, and gives the length of the reply; 0 where the host is refused.

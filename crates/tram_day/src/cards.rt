@@ -39,7 +39,8 @@ fn new_pair() -> Pair<RealSealer, FareCounter, RecordFile> {
 // The number that a card answers to a load.
 fn loaded(done: &Done) -> anyhow::Result<u8> {
     match done.answer {
-        Answer::Loaded(number) => Ok(number),
+        Answer::Loaded(Ok(())) => Ok(0),
+        Answer::Loaded(Err(refusal)) => Ok(u8::from(refusal)),
         _ => Err(anyhow!("the card takes no load")),
     }
 }
@@ -54,7 +55,7 @@ fn powered(done: &Done) -> anyhow::Result<()> {
 
 // The reply that a card writes to its buffer.
 fn reply(heap: Global, done: &Done) -> anyhow::Result<Vec<u8>> {
-    let Answer::Replied(len) = done.answer else {
+    let Answer::Replied(Ok(len)) = done.answer else {
         return Err(anyhow!("the card takes no command"));
     };
     let bytes = done

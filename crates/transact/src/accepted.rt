@@ -21,7 +21,7 @@ pub struct Accepted {
 }
 
 // Why a complete command is not accepted.
-#[derive(Clone, Copy)]
+#[derive(Clone, Copy, PartialEq, Eq, Debug)]
 pub enum Refusal {
     // It does not open as it must.
     Wrong,
@@ -31,20 +31,6 @@ pub enum Refusal {
 
 // The most bytes of an application's reply.
 const REPLY: usize = 258;
-
-// Room for a reply.
-fn reply_room() -> [u8; REPLY]
-    ensures { length result ≡ 258 }
-{
-    [0; REPLY]
-}
-
-// Room for a sealed string.
-fn answer_room() -> [u8; ROOM]
-    ensures { length result ≡ 288 }
-{
-    [0; ROOM]
-}
 
 impl Accepted {
     // Runs the application on the command's body, and seals its reply. Only this spends the token.
@@ -56,18 +42,18 @@ impl Accepted {
         plain: &[u8],
     ) -> Buffer
         requires { self.at + self.len ≤ length plain.now }
-        ensures answer { held result ≡ S.Sealer.seals.sealed connection.now.suite connection.now.keys (text AsReply self.number (A.Application.acts.reply (A.Application.contents application.old) (body_in self plain.now))) }
-        ensures holds { A.Application.contents application.new ≡ A.Application.acts.next (A.Application.contents application.old) (body_in self plain.now) }
+        ensures answer { held result ≡ S.seals.sealed connection.now.suite connection.now.keys (text AsReply self.number (A.acts.reply (A.contents application.old) (body_in self plain.now))) }
+        ensures holds { A.contents application.new ≡ A.acts.next (A.contents application.old) (body_in self plain.now) }
     {
         let Accepted { number, at, len } = self;
-        let mut reply = reply_room();
+        let mut reply = [0; REPLY];
         let n = application.run(&plain[at..at + len], &mut reply);
         let text = Text {
             direction: Direction::Reply,
             number,
             body: &reply[..n],
         };
-        let mut answer = answer_room();
+        let mut answer = [0; ROOM];
         let sealed = sealer.seal(connection.suite, &connection.keys, text, &mut answer);
         Buffer::of(answer, sealed)
     }
@@ -77,7 +63,7 @@ impl Accepted {
 fn is_command(opened: &Opened, number: u64) -> bool
     ensures { result ≡ fits_command opened.now number }
 {
-    matches!(opened.direction, Direction::Command) && opened.number == number && opened.len >= 4
+    opened.direction == Direction::Command && opened.number == number && opened.len >= 4
 }
 
 // Opens joined blocks in place, and accepts them where they are the connection's next command and the limit lets it.
@@ -87,7 +73,7 @@ pub fn accept<S: Sealer>(
     limit: u64,
     plain: &mut [u8],
 ) -> Result<Accepted, Refusal>
-    ensures { Judges (judged S.Sealer.seals (connection_of connection.now) limit plain.old) connection.now.count limit plain.new result }
+    ensures { Judges (judged S.seals (connection_of connection.now) limit plain.old) connection.now.count limit plain.new result }
 {
     let Some(opened) = sealer.open(connection.suite, &connection.keys, plain) else {
         return Err(Refusal::Wrong);
