@@ -45,31 +45,49 @@ impl From<Refusal> for LoadRefusal {
     }
 }
 
-// The refusal in words, for people.
-impl fmt::Display for LoadRefusal {
-    ghost output = { λ e. Some (load_words e) };
-
-    fn fmt<W: fmt::Write>(&self, f: &mut fmt::Formatter<W>) -> fmt::Result {
-        f.write_str(match self {
+impl LoadRefusal {
+    // The refusal in words, for people.
+    pub fn words(self) -> &'static str
+        ensures { result.now ≡ load_words self }
+    {
+        match self {
             LoadRefusal::Malformed => "the text is not a key load",
             LoadRefusal::Unset => "a limit is not set",
             LoadRefusal::AlreadyHeld => "a key with this reference is held already",
             LoadRefusal::NoRow => "no key row is free",
-        })
+        }
+    }
+}
+
+// The refusal in its words.
+impl fmt::Display for LoadRefusal {
+    ghost output = { λ e. Some (load_words e) };
+
+    fn fmt<W: fmt::Write>(&self, f: &mut fmt::Formatter<W>) -> fmt::Result {
+        f.write_str(self.words())
     }
 }
 
 impl Error for LoadRefusal {}
 
-// The refusal in words, for people.
+impl HostRefusal {
+    // The refusal in words, for people.
+    pub fn words(self) -> &'static str
+        ensures { result.now ≡ host_words self }
+    {
+        match self {
+            HostRefusal::ShortMemory => "the reply buffer or the work area is too short",
+            HostRefusal::RandomBytes => "there are not 32 random bytes",
+        }
+    }
+}
+
+// The refusal in its words.
 impl fmt::Display for HostRefusal {
     ghost output = { λ e. Some (host_words e) };
 
     fn fmt<W: fmt::Write>(&self, f: &mut fmt::Formatter<W>) -> fmt::Result {
-        f.write_str(match self {
-            HostRefusal::ShortMemory => "the reply buffer or the work area is too short",
-            HostRefusal::RandomBytes => "there are not 32 random bytes",
-        })
+        f.write_str(self.words())
     }
 }
 
