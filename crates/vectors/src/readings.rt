@@ -8,7 +8,7 @@ use std::alloc::Global;
 pub fn load(heap: Global, text: &[u8]) -> Outcome {
     let number = match read(text) {
         Ok(_) => 0,
-        Err(refusal) => refusal.into(),
+        Err(refusal) => u8::from(refusal),
     };
     Ok(vec![in heap; number]?)
 }
