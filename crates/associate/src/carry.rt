@@ -41,7 +41,7 @@ pub fn carry_out(
     }
 }
 
-// The four that follow are texts of their own: one over a closure would hide from the proof what it does to the tables.
+// The four that follow are texts of their own: handed as a closure to `and_then`, what the steps make of the tables stays open in the proof.
 
 // Establishes a master, as an object asks.
 fn carry_master(tables: &mut Tables, value: &[u8], random: &[u8; 32]) -> Result<Buffer, Status>
