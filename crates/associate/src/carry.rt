@@ -41,6 +41,8 @@ pub fn carry_out(
     }
 }
 
+// The four that follow are texts of their own: handed as a closure to `and_then`, what the steps make of the tables stays open in the proof.
+
 // Establishes a master, as an object asks.
 fn carry_master(tables: &mut Tables, value: &[u8], random: &[u8; 32]) -> Result<Buffer, Status>
     ensures outcome { outcome keyed (tables_of tables.old) random.now (asked_master value.now) ≡ done (tables_of tables.new) (sent result) }
