@@ -38,8 +38,6 @@ pub fn send(
     random: &[u8; 32],
     host: &mut Host,
 ) -> usize {
-    match card.command(apdu, random, &mut host.reply, &mut host.work) {
-        Ok(len) => len,
-        Err(_) => 0,
-    }
+    card.command(apdu, random, &mut host.reply, &mut host.work)
+        .unwrap_or(0)
 }

@@ -2,15 +2,14 @@
 use crate::bench_card::{Host, send};
 use crate::script::{Channel, Rehearsal};
 use crate::suite::Case;
-use crate::times::{Times, nanoseconds};
-use anyhow::anyhow;
+use crate::times::{Times, best_of, timed};
+use anyhow::{Context, ensure};
 use card::Powered;
 use fares::FareCounter;
 use hmac::expand;
 use sealer::RealSealer;
 use sealing::{Direction, Sealer, Suite, Text};
 use std::alloc::Global;
-use std::time::Instant;
 
 // How many fares a burst has: as many as the counter holds.
 pub const BURST: u64 = 32;
@@ -36,10 +35,8 @@ fn strings(heap: Global, channel: &Channel) -> anyhow::Result<Vec<Vec<u8>>> {
 fn blocks(heap: Global, channel: &Channel, strings: &[Vec<u8>]) -> anyhow::Result<Vec<Vec<u8>>> {
     let mut all = Vec::new(heap);
     for string in strings {
-        match channel.session.block(heap, string.as_slice(), 0)? {
-            Some(block) => all.push(block)?,
-            None => return Err(anyhow!("a sealed fare needs more than one block")),
-        }
+        let block = channel.session.block(heap, string.as_slice(), 0)?;
+        all.push(block.context("a sealed fare needs more than one block")?)?;
     }
     Ok(all)
 }
@@ -85,9 +82,7 @@ fn keys(channel: &Channel, case: &Case) -> [u8; 40] {
         channel.master.secret(),
         &[&channel.nonce, &case.offer.nonce],
     );
-    let mut keys = [0; 40];
-    keys.copy_from_slice(&area[16..56]);
-    keys
+    *area[16..56].as_array().unwrap()
 }
 
 // Whether the card's last answer begins as the last one that was sealed beside it.
@@ -106,23 +101,21 @@ fn burst(rt: &HostRuntime, case: &Case) -> anyhow::Result<Times> {
     let fetch = channel.session.fetch(0);
     let mut host = Host::new();
     let mut answer = [0; 288];
-    let start = Instant::now(rt)?;
-    let replied = ride(&mut rehearsal.card, blocks.as_slice(), &fetch, &mut host);
-    let card = nanoseconds(start.elapsed(rt)?);
-    let start = Instant::now(rt)?;
-    let sealed = seals(case.suite, &keys, strings.as_mut_slice(), &mut answer);
-    let contained = nanoseconds(start.elapsed(rt)?);
-    if replied != case.replied || sealed != case.sealed || !is_alike(&host.reply, &answer) {
-        return Err(anyhow!("a fare went wrong"));
-    }
+    let (replied, card) = timed(rt, || {
+        ride(&mut rehearsal.card, blocks.as_slice(), &fetch, &mut host)
+    })?;
+    let (sealed, contained) = timed(rt, || {
+        seals(case.suite, &keys, strings.as_mut_slice(), &mut answer)
+    })?;
+    let alike = is_alike(&host.reply, &answer);
+    ensure!(
+        replied == case.replied && sealed == case.sealed && alike,
+        "a fare went wrong"
+    );
     Ok(Times { card, contained })
 }
 
 // The best of so many bursts.
 pub fn measure(rt: &HostRuntime, case: &Case, bursts: u32) -> anyhow::Result<Times> {
-    let mut best = Times::none();
-    for _ in 0..bursts {
-        best = best.least(burst(rt, case)?);
-    }
-    Ok(best)
+    best_of(bursts, || burst(rt, case))
 }

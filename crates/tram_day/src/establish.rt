@@ -3,9 +3,10 @@ use crate::cards::Cards;
 use crate::line::{data_of, send};
 use crate::talk::Channel;
 use anyhow::{Context, ensure};
+use apdu::Kind;
 use personalise::KeyLoad;
 use terminal::{
-    Connection, Kind, Master, Offer, Session, connection_object, first_block, master_end_object,
+    Connection, Master, Offer, Session, connection_object, first_block, master_end_object,
     master_object, read_connection, read_master, read_session, reply_wanted, start_object,
 };
 
@@ -72,7 +73,7 @@ pub fn start(cards: &mut Cards<'_>, connection: Connection) -> anyhow::Result<Ch
     println!(cards.rt; "")?;
     println!(cards.rt; "A session, with blocks of up to {CONTAINER} bytes")?;
     let object = start_object(cards.rt.alloc(), &connection, CONTAINER)?;
-    let reply = ask(cards, Kind::Session, object.as_slice())?;
+    let reply = ask(cards, Kind::Start, object.as_slice())?;
     let byte = read_session(reply.as_slice()).context("the card started no session")?;
     let session = Session {
         byte,
@@ -93,7 +94,7 @@ pub fn end(cards: &mut Cards<'_>, master: &Master, connection: &Connection) -> a
     cards.power_off()?;
     cards.power_on()?;
     let object = start_object(cards.rt.alloc(), connection, CONTAINER)?;
-    tell(cards, Kind::Session, object.as_slice())?;
+    tell(cards, Kind::Start, object.as_slice())?;
     let object = master_end_object(cards.rt.alloc(), master)?;
-    tell(cards, Kind::End, object.as_slice())
+    tell(cards, Kind::Terminate, object.as_slice())
 }
