@@ -51,15 +51,11 @@ impl BlockCipher for Aes128 {
     }
 
     fn encrypt(&self, block: &mut [u8]) {
-        if let Some(block) = block.as_mut_array() {
-            encrypt_block(&self.keys, block);
-        }
+        encrypt_block(&self.keys, block.as_mut_array().unwrap());
     }
 
     fn decrypt(&self, block: &mut [u8]) {
-        if let Some(block) = block.as_mut_array() {
-            decrypt_block(&self.keys, block);
-        }
+        decrypt_block(&self.keys, block.as_mut_array().unwrap());
     }
 }
 

@@ -1,5 +1,5 @@
 -- A rule proved at all entries of a table, or at all numbers below a bound, by one test that is computed.
-use Rattle.std.proofs.Common.{◌≡◌, ℕ, zero, suc, ◌+◌, ◌<◌, Bool, true, false, T, ltb, List, [], ◌∷◌, length, get_or, sym, refl, ◌∙◌, subst, ⊎_elim, le_of_suc-le-suc, not-suc-le-zero, add-zero, add-suc, suc-add, eq-or-lt_of_le, zero-add, leb→le, lt-ltb}
+use Rattle.std.proofs.Common.{◌≡◌, ℕ, zero, suc, ◌+◌, ◌<◌, Bool, true, false, T, eqb, ltb, List, [], ◌∷◌, length, get_or, sym, refl, eqb→eq, ◌∙◌, subst, ⊎_elim, le_of_suc-le-suc, not-suc-le-zero, add-zero, add-suc, suc-add, eq-or-lt_of_le, zero-add, leb→le, lt-ltb}
 pub use Rattle.byte_lists.specs.Bytes.{both, small}
 
 pub both_left : (a b : Bool) → T (both a b) → T a
@@ -9,6 +9,22 @@ both_left false b t = t
 pub both_right : (a b : Bool) → T (both a b) → T b
 both_right true b t = t
 both_right false b t = absurd t
+
+-- Whether two lists are the same.
+abbrev pub same : List ℕ → List ℕ → Bool
+same [] [] = true
+same [] (y ∷ ys) = false
+same (x ∷ xs) [] = false
+same (x ∷ xs) (y ∷ ys) = both (eqb x y) (same xs ys)
+
+pub same_is : (xs ys : List ℕ) → T (same xs ys) → xs ≡ ys
+same_is [] [] t = refl
+same_is [] (y ∷ ys) t = absurd t
+same_is (x ∷ xs) [] t = absurd t
+same_is (x ∷ xs) (y ∷ ys) t =
+    let e = eqb→eq x y (both_left (eqb x y) (same xs ys) t) in
+    let es = same_is xs ys (both_right (eqb x y) (same xs ys) t) in
+    cc
 
 -- The test f passes at each entry of the list and its place, counted from i.
 abbrev pub every : {X : Type 0} → (ℕ → X → Bool) → ℕ → List X → Bool

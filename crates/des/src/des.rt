@@ -48,16 +48,14 @@ impl BlockCipher for Des {
     }
 
     fn encrypt(&self, block: &mut [u8]) {
-        if let Some(block) = block.as_mut_array() {
-            *block = apply(&self.keys, block);
-        }
+        let block = block.as_mut_array().unwrap();
+        *block = apply(&self.keys, block);
     }
 
     fn decrypt(&self, block: &mut [u8]) {
         let mut keys = self.keys;
         keys.reverse();
-        if let Some(block) = block.as_mut_array() {
-            *block = apply(&keys, block);
-        }
+        let block = block.as_mut_array().unwrap();
+        *block = apply(&keys, block);
     }
 }

@@ -3,9 +3,9 @@ use Rattle.std.proofs.Common.{◌≡◌, ℕ, zero, suc, ◌+◌, ◌-◌, ◌*�
 use lib.Bits.{bit_xor, xor_shifted}
 use Rattle.std.proofs.lemmas.Nat.{pow-add}
 use Rattle.byte_lists.specs.Bytes.{xors}
-use Rattle.byte_lists.proofs.Tables.{all_below, all_below_at}
+use Rattle.byte_lists.proofs.Tables.{all_below, all_below_at, same, same_is}
 use Rattle.des_tables.specs.Bits.{bits, chosen}
-use Rattle.des_tables.proofs.Lists.{same, same_is, chosen_xors}
+use Rattle.des_tables.proofs.Lists.{chosen_xors}
 use Rattle.des_tables.proofs.Bits.{bits_xor, length_bits}
 
 -- from numbers to numbers

@@ -1,8 +1,7 @@
 -- Exclusive or of lists, and choices of bits, as lists.
-use Rattle.std.proofs.Common.{◌≡◌, ℕ, zero, suc, ◌-◌, Bool, true, false, T, eqb, List, [], ◌∷◌, ◌++◌, length, get_or, take, drop, replicate, sym, refl, ap, ◌∙◌, arith, eqb→eq}
+use Rattle.std.proofs.Common.{◌≡◌, ℕ, zero, suc, ◌-◌, List, [], ◌∷◌, ◌++◌, length, get_or, take, drop, replicate, sym, refl, ap, ◌∙◌, arith}
 use lib.Bits.{bit_xor, xor_assoc, xor_zero_r}
 use Rattle.byte_lists.specs.Bytes.{xors}
-use Rattle.byte_lists.proofs.Tables.{both, both_left, both_right}
 use Rattle.des_tables.specs.Bits.{chosen}
 
 pub xors_none : (xs : List ℕ) → xors xs [] ≡ xs
@@ -79,19 +78,3 @@ pub behind_zeros : (n : ℕ) (xs ys : List ℕ) → xors (zeros n ++ xs) (zeros 
 unfolding xors
 behind_zeros zero xs ys = refl
 behind_zeros (suc n) xs ys = ap (λ zs. 0 ∷ zs) (behind_zeros n xs ys)
-
--- whether two lists are the same
-abbrev pub same : List ℕ → List ℕ → Bool
-same [] [] = true
-same [] (y ∷ ys) = false
-same (x ∷ xs) [] = false
-same (x ∷ xs) (y ∷ ys) = both (eqb x y) (same xs ys)
-
-pub same_is : (xs ys : List ℕ) → T (same xs ys) → xs ≡ ys
-same_is [] [] t = refl
-same_is [] (y ∷ ys) t = absurd t
-same_is (x ∷ xs) [] t = absurd t
-same_is (x ∷ xs) (y ∷ ys) t =
-    let e : x ≡ y = eqb→eq x y (both_left (eqb x y) (same xs ys) t) in
-    let es : xs ≡ ys = same_is xs ys (both_right (eqb x y) (same xs ys) t) in
-    cc

@@ -2,11 +2,10 @@
 use Rattle.std.proofs.Common.{◌≡◌, ℕ, ◌+◌, ◌*◌, ◌/◌, ◌%◌, ◌<◌, Bool, T, List, [], map, get_or, sym, ap, ◌∙◌, arith}
 use Rattle.std.specs.List.{range_with_len}
 use Rattle.std.proofs.lemmas.List.FromFn.{get_or-map-range_with_len}
-use Rattle.byte_lists.proofs.Tables.{all_below, all_below_at}
+use Rattle.byte_lists.proofs.Tables.{all_below, all_below_at, same, same_is}
 use Rattle.des_tables.specs.Bits.{bits, value, chosen}
 use Rattle.des_tables.specs.Tables.{sboxes, straight}
 use Rattle.des_tables.specs.Boxes.{selected, placed}
-use Rattle.des_tables.proofs.Lists.{same, same_is}
 
 abbrev word : ℕ → ℕ → ℕ
 word b v = value (chosen straight (placed b v))

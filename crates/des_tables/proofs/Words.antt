@@ -3,11 +3,10 @@ use Rattle.std.proofs.Common.{◌≡◌, ℕ, zero, suc, ◌+◌, ◌-◌, ◌*�
 use lib.Bits.{bit_and, bit_xor, and_shr, xor_shr, and_mod, xor_mod, xor_block, xor_assoc, xor_comm}
 use Rattle.std.proofs.lemmas.Nat.{pow_pos}
 use Rattle.std.proofs.lemmas.List.{take-map, drop-map}
-use Rattle.byte_lists.proofs.Tables.{all_below_at}
+use Rattle.byte_lists.proofs.Tables.{all_below_at, same, same_is}
 use Rattle.des_tables.specs.Bits.{bits, chosen}
 use Rattle.des_tables.specs.Tables.{ip, fp, expansion}
 use Rattle.des_tables.specs.Words.{exchanged, initial_word, final_word, wrapped}
-use Rattle.des_tables.proofs.Lists.{same, same_is}
 use Rattle.des_tables.proofs.Linear.{Linear, bits_additive, chosen_additive, agrees, agree}
 
 -- one bit of each

@@ -1,23 +1,8 @@
 -- A table of words whose bytes follow a rule: the rule at each entry, by one test of the whole table.
-use Rattle.std.proofs.Common.{◌≡◌, ℕ, ◌<◌, Bool, true, false, T, eqb, List, [], ◌∷◌, map, get_or, refl, eqb→eq}
+use Rattle.std.proofs.Common.{◌≡◌, ℕ, ◌<◌, Bool, T, List, map, get_or}
 use Rattle.std.specs.List.{range_with_len}
 use Rattle.byte_lists.specs.Numbers.{octets, number}
-use Rattle.byte_lists.proofs.Tables.{both, both_left, both_right, every, every_at}
-
-abbrev same : List ℕ → List ℕ → Bool
-same [] [] = true
-same [] (y ∷ ys) = false
-same (x ∷ xs) [] = false
-same (x ∷ xs) (y ∷ ys) = both (eqb x y) (same xs ys)
-
-same_is : (xs ys : List ℕ) → T (same xs ys) → xs ≡ ys
-same_is [] [] t = refl
-same_is [] (y ∷ ys) t = absurd t
-same_is (x ∷ xs) [] t = absurd t
-same_is (x ∷ xs) (y ∷ ys) t =
-    let e = eqb→eq x y (both_left (eqb x y) (same xs ys) t) in
-    let es = same_is xs ys (both_right (eqb x y) (same xs ys) t) in
-    cc
+use Rattle.byte_lists.proofs.Tables.{every, every_at, same, same_is}
 
 -- The bytes of the word w at the place k are those of the rule f.
 abbrev follows : (ℕ → List ℕ) → ℕ → ℕ → Bool
