@@ -34,7 +34,7 @@ impl Core {
         status
     }
 
-    // What was granted: a termination is done, and after anything else a reply waits.
+    // What was granted: a termination is done, and after anything else a reply waits. A match by name, so that a new kind is seen.
     fn grant(&mut self, kind: Kind, reply: Buffer) -> Status
         ensures said { says (core_of self.new) result ≡ granted (core_of self.old) (kind_of kind) (held reply) }
         ensures tables { self.new.tables ≡ self.old.tables }
@@ -54,7 +54,7 @@ impl Core {
             }
         }
     }
-    // A whole object is carried out.
+    // A whole object is carried out. The area stays a slice with its bound: the host may lend more than 64 bytes.
     fn carry_out(&mut self, kind: Kind, value: &[u8], random: &[u8; 32], area: &mut [u8]) -> Status
         requires area { 64 ≤ length area.old }
         ensures { Said (decides keyed (core_of self.old) random.now (kind_of kind) (asked (kind_of kind) value.now) (verdict keyed (tables_of self.old.tables) random.now (asked (kind_of kind) value.now))) self.old self.new result }

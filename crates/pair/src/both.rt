@@ -29,7 +29,7 @@ fn run_card<S: Sealer + Drop, A: Application + Drop>(
     Ok((card, dones))
 }
 
-// Makes the calls to both cards, the left one first.
+// Makes the calls to both cards, the left one first. Apart from `run`, whose law is proved from these two clauses.
 fn run_both<S: Sealer + Drop, L: Application + Drop, R: Application + Drop>(
     pair: Pair<S, L, R>,
     calls: &[Call<'_>],

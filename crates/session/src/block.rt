@@ -7,7 +7,7 @@ ghost use Rattle.session.specs.View.{block_of};
 use crate::state::Block;
 use buffer::Buffer;
 
-// Whether two strings of bytes are equal.
+// Whether two strings of bytes are equal. Stays beside `==`: its contract has the law's word for it, which `is` cites.
 pub fn same_bytes(a: &[u8], b: &[u8]) -> bool
     ensures { result ≡ same_bytes a.now b.now }
 {
