@@ -28,10 +28,8 @@ impl Host {
 // A powered card that requires the channel and holds the key.
 pub fn new_card() -> anyhow::Result<Powered<RealSealer, FareCounter>> {
     let mut card = Off::new(RealSealer, FareCounter::new(), true);
-    match card.load(KEY) {
-        Ok(()) => Ok(card.power_on()),
-        Err(refusal) => Err(anyhow!(refusal.words())),
-    }
+    card.load(KEY).map_err(|refusal| anyhow!(refusal.words()))?;
+    Ok(card.power_on())
 }
 
 // Sends a command, and gives the length of the reply; 0 where the host is refused.
@@ -41,8 +39,6 @@ pub fn send(
     random: &[u8; 32],
     host: &mut Host,
 ) -> usize {
-    match card.command(apdu, random, &mut host.reply, &mut host.work) {
-        Ok(len) => len,
-        Err(_) => 0,
-    }
+    card.command(apdu, random, &mut host.reply, &mut host.work)
+        .unwrap_or(0)
 }

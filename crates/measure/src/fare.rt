@@ -2,15 +2,14 @@
 use crate::bench_card::{Host, send};
 use crate::script::{Channel, Rehearsal};
 use crate::suite::Case;
-use crate::times::{Times, nanoseconds};
-use anyhow::anyhow;
+use crate::times::{Times, best_of, timed};
+use anyhow::{Context, ensure};
 use card::Powered;
 use fares::FareCounter;
 use hmac::expand;
 use sealer::RealSealer;
 use sealing::{Direction, Sealer, Suite};
 use std::alloc::Global;
-use std::time::Instant;
 
 // How many fares a burst has: as many as the counter holds.
 pub const BURST: u64 = 32;
@@ -36,15 +35,13 @@ fn strings(heap: Global, channel: &Channel) -> anyhow::Result<Vec<Vec<u8>>> {
 fn blocks(heap: Global, channel: &Channel, strings: &[Vec<u8>]) -> anyhow::Result<Vec<Vec<u8>>> {
     let mut all = Vec::new(heap);
     for string in strings {
-        match channel.session.block(heap, string.as_slice(), 0)? {
-            Some(block) => all.push(block)?,
-            None => return Err(anyhow!("a sealed fare needs more than one block")),
-        }
+        let block = channel.session.block(heap, string.as_slice(), 0)?;
+        all.push(block.context("a sealed fare needs more than one block")?)?;
     }
     Ok(all)
 }
 
-// Sends each block and fetches its answer. The sum of the lengths of all replies.
+// Sends each block and fetches its answer; two sendings a turn read best in a loop. The sum of the lengths of all replies.
 fn ride(
     card: &mut Powered<RealSealer, FareCounter>,
     blocks: &[Vec<u8>],
@@ -60,7 +57,7 @@ fn ride(
     sum
 }
 
-// Opens each string in place and seals an answer to it. The sum of the lengths of all bodies and answers.
+// Opens each string in place and seals an answer to it; in a loop, since each turn writes to the string and the answer. The sum of the lengths of all bodies and answers.
 fn seals(suite: Suite, keys: &[u8; 40], strings: &mut [Vec<u8>], answer: &mut [u8; 288]) -> usize {
     let mut sum = 0usize;
     for string in strings {
@@ -81,9 +78,7 @@ fn keys(channel: &Channel, case: &Case) -> [u8; 40] {
         channel.master.secret(),
         &[&channel.nonce, &case.offer.nonce],
     );
-    let mut keys = [0; 40];
-    keys.copy_from_slice(&area[16..56]);
-    keys
+    *area[16..56].as_array().unwrap()
 }
 
 // Whether the card's last answer begins as the last one that was sealed beside it.
@@ -102,23 +97,21 @@ fn burst(rt: &HostRuntime, case: &Case) -> anyhow::Result<Times> {
     let fetch = channel.session.fetch(0);
     let mut host = Host::new();
     let mut answer = [0; 288];
-    let start = Instant::now(rt)?;
-    let replied = ride(&mut rehearsal.card, blocks.as_slice(), &fetch, &mut host);
-    let card = nanoseconds(start.elapsed(rt)?);
-    let start = Instant::now(rt)?;
-    let sealed = seals(case.suite, &keys, strings.as_mut_slice(), &mut answer);
-    let contained = nanoseconds(start.elapsed(rt)?);
-    if replied != case.replied || sealed != case.sealed || !is_alike(&host.reply, &answer) {
-        return Err(anyhow!("a fare went wrong"));
-    }
+    let (replied, card) = timed(rt, || {
+        ride(&mut rehearsal.card, blocks.as_slice(), &fetch, &mut host)
+    })?;
+    let (sealed, contained) = timed(rt, || {
+        seals(case.suite, &keys, strings.as_mut_slice(), &mut answer)
+    })?;
+    let alike = is_alike(&host.reply, &answer);
+    ensure!(
+        replied == case.replied && sealed == case.sealed && alike,
+        "a fare went wrong"
+    );
     Ok(Times { card, contained })
 }
 
 // The best of so many bursts.
 pub fn measure(rt: &HostRuntime, case: &Case, bursts: u32) -> anyhow::Result<Times> {
-    let mut best = Times::none();
-    for _ in 0..bursts {
-        best = best.least(burst(rt, case)?);
-    }
-    Ok(best)
+    best_of(bursts, || burst(rt, case))
 }

@@ -1,13 +1,14 @@
 // Associations between a terminal and a card, and the commands that they took.
 use crate::bench_card::{Host, KEY, new_card, send};
-use anyhow::anyhow;
+use anyhow::{Context, anyhow, ensure};
+use apdu::Kind;
 use card::Powered;
 use fares::FareCounter;
 use personalise::{KeyLoad, read};
 use sealer::RealSealer;
 use std::alloc::Global;
 use terminal::{
-    Connection, Kind, Master, Offer, Session, connection_object, first_block, master_object,
+    Connection, Master, Offer, Session, connection_object, first_block, master_object,
     read_connection, read_master, read_session, reply_wanted, start_object,
 };
 
@@ -44,10 +45,7 @@ pub struct Rehearsal {
 impl Rehearsal {
     // A new card, and nothing sent.
     pub fn new(heap: Global) -> anyhow::Result<Rehearsal> {
-        let load = match read(KEY) {
-            Ok(load) => load,
-            Err(refusal) => return Err(anyhow!(refusal.words())),
-        };
+        let load = read(KEY).map_err(|refusal| anyhow!(refusal.words()))?;
         Ok(Rehearsal {
             heap,
             load,
@@ -67,17 +65,13 @@ impl Rehearsal {
         let random = [(self.lines.len() % 256) as u8; 32];
         let len = send(&mut self.card, apdu.as_slice(), &random, &mut host);
         self.lines.push(Line { apdu, random })?;
-        match host.reply.get(0..len.saturating_sub(2)) {
-            Some(data) => Ok(Vec::from_slice(self.heap, data)?),
-            None => Err(anyhow!("a reply is too long")),
-        }
+        let data = host.reply.get(0..len.saturating_sub(2));
+        Ok(Vec::from_slice(self.heap, data.context("a reply is too long")?)?)
     }
 
     // Sends an object, and fetches the object that the card replies.
     fn ask(&mut self, kind: Kind, object: &[u8]) -> anyhow::Result<Vec<u8>> {
-        if object.len() > 255 {
-            return Err(anyhow!("an object too long for one block"));
-        }
+        ensure!(object.len() <= 255, "an object too long for one block");
         let command = first_block(self.heap, kind, object)?;
         let _status = self.send(command)?;
         let wanted = Vec::from_slice(self.heap, &reply_wanted(kind))?;
@@ -88,10 +82,8 @@ impl Rehearsal {
     fn master(&mut self) -> anyhow::Result<Master> {
         let object = master_object(self.heap, self.load.reference())?;
         let reply = self.ask(Kind::Master, object.as_slice())?;
-        match read_master(reply.as_slice()) {
-            Some(reply) => Ok(Master::new(self.load.key(), reply.id)),
-            None => Err(anyhow!("the card gave no master")),
-        }
+        let reply = read_master(reply.as_slice()).context("the card gave no master")?;
+        Ok(Master::new(self.load.key(), reply.id))
     }
 
     // A new master, a connection under it, and the connection's session.
@@ -99,17 +91,13 @@ impl Rehearsal {
         let master = self.master()?;
         let object = connection_object(self.heap, &master, offer)?;
         let reply = self.ask(Kind::Connection, object.as_slice())?;
-        let Some(heard) = read_connection(reply.as_slice()) else {
-            return Err(anyhow!("the card gave no connection"));
-        };
-        let Some(connection) = Connection::agreed(&master, offer, &heard) else {
-            return Err(anyhow!("the card's MAC is wrong"));
-        };
+        let heard = read_connection(reply.as_slice()).context("the card gave no connection")?;
+        let connection = Connection::agreed(&master, offer, &heard).context(
+            "the card's MAC is wrong",
+        )?;
         let object = start_object(self.heap, &connection, CONTAINER)?;
-        let reply = self.ask(Kind::Session, object.as_slice())?;
-        let Some(byte) = read_session(reply.as_slice()) else {
-            return Err(anyhow!("the card started no session"));
-        };
+        let reply = self.ask(Kind::Start, object.as_slice())?;
+        let byte = read_session(reply.as_slice()).context("the card started no session")?;
         let session = Session {
             byte,
             container: CONTAINER,

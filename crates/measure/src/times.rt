@@ -1,5 +1,5 @@
 // Nanoseconds of the card's work and of what it contains.
-use std::time::Duration;
+use std::time::{Duration, Instant};
 
 // The shortest time of some bursts: the card's, and that of the sealings or codes that its work contains.
 #[derive(Clone, Copy)]
@@ -39,18 +39,33 @@ impl Times {
 
 // A quotient, or 0 where there is none.
 fn quotient(a: u64, b: u64) -> u64 {
-    match a.checked_div(b) {
-        Some(n) => n,
-        None => 0,
-    }
+    a.checked_div(b).unwrap_or(0)
 }
 
 // Whole nanoseconds.
-pub fn nanoseconds(time: Duration) -> u64 {
-    let whole = time.as_nanos();
-    if whole < 1_000_000_000_000 {
-        whole as u64
-    } else {
-        1_000_000_000_000
+fn nanoseconds(time: Duration) -> u64 {
+    time.as_nanos().min(1_000_000_000_000) as u64
+}
+
+// What some work gives, and the nanoseconds that it took.
+pub fn timed<T: Drop, F: FnOnce() -> T>(rt: &HostRuntime, work: F) -> anyhow::Result<(T, u64)>
+    requires { F.IsAlwaysCallable work }
+{
+    let start = Instant::now(rt)?;
+    let given = work();
+    Ok((given, nanoseconds(start.elapsed(rt)?)))
+}
+
+// The best of so many bursts.
+pub fn best_of<F: FnMut() -> anyhow::Result<Times>>(
+    bursts: u32,
+    mut burst: F,
+) -> anyhow::Result<Times>
+    requires { F.IsAlwaysCallable burst }
+{
+    let mut best = Times::none();
+    for _ in 0..bursts {
+        best = best.least(burst()?);
     }
+    Ok(best)
 }

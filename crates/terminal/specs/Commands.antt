@@ -1,16 +1,8 @@
 -- The commands that a terminal sends.
 use Rattle.std.specs.Prelude.{ℕ}
 use Rattle.apdu.specs.Command.{Shape, Command}
-use Rattle.terminal.specs.declared.command.Kind.{Kind}
-use Rattle.terminal.specs.declared.command.Kind.TheVariants.{Discovery, Master, Connection, Session, End}
-
--- Each kind's P1.
-abbrev pub p1_of : Kind → ℕ
-p1_of Discovery = 0
-p1_of Master = 1
-p1_of Connection = 2
-p1_of Session = 3
-p1_of End = 4
+use Rattle.apdu.specs.declared.kind.Kind.{Kind}
+use Rattle.apdu.specs.Kinds.{p1_of}
 
 -- MANAGE SECURE CHANNEL.
 abbrev pub manage : Kind → ℕ → Shape → Command

@@ -2,37 +2,13 @@
 ghost use Rattle.std.specs.Prelude.{◌≡◌, ◌≤◌, ◌∷◌, length, IfOk};
 ghost use Rattle.apdu.specs.Command.{le, alone};
 ghost use Rattle.apdu.specs.Writing.{command_bytes};
-ghost use Rattle.terminal.specs.Commands.{p1_of, manage};
+ghost use Rattle.terminal.specs.Commands.{manage};
 
 use crate::object::with_bytes;
+use apdu::Kind;
 use std::alloc::{AllocError, Global};
 
 const MANAGE: u8 = 0x73;
-
-// What a command that manages the channel is about.
-#[derive(Clone, Copy)]
-pub enum Kind {
-    Discovery,
-    Master,
-    Connection,
-    Session,
-    End,
-}
-
-impl Kind {
-    // The byte that stands for the kind.
-    fn p1(self) -> u8
-        ensures { result ≡ p1_of self }
-    {
-        match self {
-            Kind::Discovery => 0x00,
-            Kind::Master => 0x01,
-            Kind::Connection => 0x02,
-            Kind::Session => 0x03,
-            Kind::End => 0x04,
-        }
-    }
-}
 
 // A command with data alone.
 pub fn with_data(heap: Global, ins: u8, p1: u8, p2: u8, data: &[u8]) -> Result<Vec<u8>, AllocError>
@@ -43,12 +19,12 @@ pub fn with_data(heap: Global, ins: u8, p1: u8, p2: u8, data: &[u8]) -> Result<V
     with_bytes(header, data)
 }
 
-// The first block of an object.
+// The first block of an object. It and a next block are one call each, and differ in P2; a caller tests the length once.
 pub fn first_block(heap: Global, kind: Kind, block: &[u8]) -> Result<Vec<u8>, AllocError>
     requires { length block.now ≤ 255 }
     ensures { IfOk result (λ v. v.items ≡ command_bytes (manage kind 0x80 (alone block.now))) }
 {
-    with_data(heap, MANAGE, kind.p1(), 0x80, block)
+    with_data(heap, MANAGE, u8::from(kind), 0x80, block)
 }
 
 // A next block of an object.
@@ -56,12 +32,12 @@ pub fn next_block(heap: Global, kind: Kind, block: &[u8]) -> Result<Vec<u8>, All
     requires { length block.now ≤ 255 }
     ensures { IfOk result (λ v. v.items ≡ command_bytes (manage kind 0x00 (alone block.now))) }
 {
-    with_data(heap, MANAGE, kind.p1(), 0x00, block)
+    with_data(heap, MANAGE, u8::from(kind), 0x00, block)
 }
 
 // Asks for the reply, from its first byte on and up to 256 bytes of it.
 pub fn reply_wanted(kind: Kind) -> [u8; 5]
     ensures { result ≡ command_bytes (manage kind 0xA0 (le 256)) }
 {
-    [0x00, MANAGE, kind.p1(), 0xA0, 0x00]
+    [0x00, MANAGE, u8::from(kind), 0xA0, 0x00]
 }

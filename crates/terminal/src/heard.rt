@@ -1,35 +1,18 @@
 // Reading the card's replies: an object is a reply where it is, byte for byte, what the card writes for it.
-ghost use Rattle.std.specs.Prelude.{◌≡◌, ℕ, ◌+◌, ◌≤◌, length, take, drop, Decides, MatchOption};
+ghost use Rattle.std.specs.Prelude.{◌≡◌, ℕ, Decides, MatchOption};
 ghost use Rattle.replies.specs.Reply.{reply_object};
 ghost use Rattle.terminal.specs.Heard.{IsMaster, IsConnection, IsSession};
 
 use replies::reply::{ConnectionReply, LONGEST, MasterReply, Reply};
 use secret::same;
 
-// Room for a reply's object.
-fn blank() -> [u8; LONGEST]
-    ensures { length result ≡ 62 }
-{
-    [0; LONGEST]
-}
-
 // Whether an object is this reply.
 fn is_reply(object: &[u8], reply: Reply) -> bool
     ensures { Decides result (object.now ≡ reply_object reply) }
 {
-    let mut written = blank();
+    let mut written = [0; LONGEST];
     let len = reply.write(&mut written);
     same(object, &written[0..len])
-}
-
-// The 16 bytes from a place on.
-fn sixteen_at(object: &[u8], at: usize) -> [u8; 16]
-    requires { at + 16 ≤ length object.now }
-    ensures { result ≡ take 16 (drop at object.now) }
-{
-    let mut part = [0; 16];
-    part.copy_from_slice(&object[at..at + 16]);
-    part
 }
 
 // The identifier of a new master.
@@ -40,7 +23,7 @@ pub fn read_master(object: &[u8]) -> Option<MasterReply>
         return None;
     }
     let reply = MasterReply {
-        id: sixteen_at(object, 4),
+        id: *object[4..20].as_array().unwrap(),
     };
     if is_reply(object, Reply::Master(reply)) {
         Some(reply)
@@ -57,11 +40,11 @@ pub fn read_connection(object: &[u8]) -> Option<ConnectionReply>
         return None;
     }
     let reply = ConnectionReply {
-        id: sixteen_at(object, 4),
-        nonce: sixteen_at(object, 22),
+        id: *object[4..20].as_array().unwrap(),
+        nonce: *object[22..38].as_array().unwrap(),
         cipher: object[40],
         mechanism: object[43],
-        mac: sixteen_at(object, 46),
+        mac: *object[46..62].as_array().unwrap(),
     };
     if is_reply(object, Reply::Connection(reply)) {
         Some(reply)

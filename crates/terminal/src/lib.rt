@@ -13,7 +13,7 @@ mod request;
 mod secrets;
 mod session;
 
-pub use command::{Kind, first_block, next_block, reply_wanted};
+pub use command::{first_block, next_block, reply_wanted};
 pub use connection::Connection;
 pub use heard::{read_connection, read_master, read_session};
 pub use mac::short_mac;

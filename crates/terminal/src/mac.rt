@@ -3,16 +3,14 @@ ghost use Rattle.std.specs.Prelude.{◌≡◌, [], ◌∷◌, ◌++◌, take};
 ghost use Rattle.terminal.specs.Macs.{mac_of, agreement};
 
 use crate::offer::Offer;
-use hmac::{Hmac, mac, mac_joined};
+use hmac::{mac, mac_joined};
 use replies::reply::ConnectionReply;
 
 // The first 16 of 32 bytes.
 fn cut(whole: &[u8; 32]) -> [u8; 16]
     ensures { result ≡ take 16 whole.now }
 {
-    let mut short = [0; 16];
-    short.copy_from_slice(&whole[0..16]);
-    short
+    *whole.first_chunk().unwrap()
 }
 
 // The first 16 bytes of HMAC-SHA-256.
@@ -30,15 +28,23 @@ pub fn start_mac(key: &[u8], id: &[u8], container: u8) -> [u8; 16]
 }
 
 // The MAC over all that both sides said of a connection.
-pub fn agreement_mac(key: &[u8], master: &[u8], offer: &Offer, reply: &ConnectionReply) -> [u8; 16]
+pub fn agreement_mac<'a>(
+    key: &[u8],
+    master: &'a [u8],
+    offer: &'a Offer,
+    reply: &'a ConnectionReply,
+) -> [u8; 16]
     ensures { result ≡ mac_of key.now (agreement master.now offer.now reply.now) }
 {
-    let mut code = Hmac::new(key);
-    code.update(master);
-    code.update(&offer.nonce);
-    code.update(&[offer.ciphers, offer.mechanisms]);
-    code.update(&reply.id);
-    code.update(&reply.nonce);
-    code.update(&[reply.cipher, reply.mechanism]);
-    cut(&code.finish())
+    cut(&mac_joined(
+        key,
+        &[
+            master,
+            &offer.nonce,
+            &[offer.ciphers, offer.mechanisms],
+            &reply.id,
+            &reply.nonce,
+            &[reply.cipher, reply.mechanism],
+        ],
+    ))
 }

@@ -1,5 +1,5 @@
 // The keys of a connection.
-ghost use Rattle.std.specs.Prelude.{◌≡◌, length};
+ghost use Rattle.std.specs.Prelude.{◌≡◌};
 ghost use Rattle.hmac.specs.Expansion.{mac_key, sealer_keys};
 ghost use Rattle.terminal.specs.Macs.{material};
 
@@ -14,26 +14,6 @@ pub struct Secrets {
     pub keys: [u8; 40],
 }
 
-// The first 16 bytes of the material.
-fn mac_part(material: &[u8]) -> [u8; 16]
-    requires { length material.now ≡ 64 }
-    ensures { result ≡ mac_key material.now }
-{
-    let mut part = [0; 16];
-    part.copy_from_slice(&material[0..16]);
-    part
-}
-
-// The next 40 bytes.
-fn keys_part(material: &[u8]) -> [u8; 40]
-    requires { length material.now ≡ 64 }
-    ensures { result ≡ sealer_keys material.now }
-{
-    let mut part = [0; 40];
-    part.copy_from_slice(&material[16..56]);
-    part
-}
-
 // The keys that a master's secret and the nonces of both sides make, the card's first.
 pub fn derive(secret: &[u8], card_nonce: &[u8], own_nonce: &[u8]) -> Secrets
     ensures mac { result.mac ≡ mac_key (material secret.now card_nonce.now own_nonce.now) }
@@ -41,7 +21,7 @@ pub fn derive(secret: &[u8], card_nonce: &[u8], own_nonce: &[u8]) -> Secrets
 {
     let area = expand(secret, &[card_nonce, own_nonce]);
     Secrets {
-        mac: mac_part(&area),
-        keys: keys_part(&area),
+        mac: *area[0..16].as_array().unwrap(),
+        keys: *area[16..56].as_array().unwrap(),
     }
 }

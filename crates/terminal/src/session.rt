@@ -23,13 +23,7 @@ pub struct Session {
 fn left(count: usize, sent: usize) -> Option<u8>
     ensures { result ≡ behind count sent }
 {
-    if count < sent {
-        return None;
-    }
-    if count - sent > 255 {
-        return None;
-    }
-    Some((count - sent) as u8)
+    u8::try_from(count.checked_sub(sent)?).ok()
 }
 
 impl Session {

@@ -1,6 +1,6 @@
 // The two cards side by side: a fare counter on the left, a record file on the right.
 use crate::random::random;
-use anyhow::anyhow;
+use anyhow::{Context, anyhow};
 use fares::FareCounter;
 use pair::{Answer, Call, CommandCall, Done, Pair, Ran, run};
 use records::RecordFile;
@@ -54,17 +54,16 @@ fn powered(done: &Done) -> anyhow::Result<()> {
 // The reply that a card writes to its buffer.
 fn reply(heap: Global, done: &Done) -> anyhow::Result<Vec<u8>> {
     match done.answer {
-        Answer::Replied(len) => match done.buffer.as_slice().get(0..len) {
-            Some(bytes) => Ok(Vec::from_slice(heap, bytes)?),
-            None => Err(anyhow!("a reply longer than its buffer")),
-        },
+        Answer::Replied(len) => {
+            let bytes = done
+                .buffer
+                .as_slice()
+                .get(0..len)
+                .context("a reply longer than its buffer")?;
+            Ok(Vec::from_slice(heap, bytes)?)
+        }
         _ => Err(anyhow!("the card takes no command")),
     }
-}
-
-// The call that turns the power on or off.
-fn turn(on: bool) -> Call<'static> {
-    if on { Call::PowerOn } else { Call::PowerOff }
 }
 
 impl Cards {
@@ -96,18 +95,21 @@ impl Cards {
         loaded(&left)
     }
 
-    // Powers both cards on.
-    pub fn power_on(&mut self, heap: Global) -> anyhow::Result<()> {
-        let (left, right) = self.call(heap, &turn(true))?;
+    // Turns the power of both cards.
+    fn turn(&mut self, heap: Global, call: &Call<'_>) -> anyhow::Result<()> {
+        let (left, right) = self.call(heap, call)?;
         powered(&left)?;
         powered(&right)
     }
 
+    // Powers both cards on.
+    pub fn power_on(&mut self, heap: Global) -> anyhow::Result<()> {
+        self.turn(heap, &Call::PowerOn)
+    }
+
     // Powers both cards off.
     pub fn power_off(&mut self, heap: Global) -> anyhow::Result<()> {
-        let (left, right) = self.call(heap, &turn(false))?;
-        powered(&left)?;
-        powered(&right)
+        self.turn(heap, &Call::PowerOff)
     }
 
     // Sends a command to both cards.

@@ -1,11 +1,13 @@
-// From a powered card to a started session.
+// From a powered card to a started session. Each step shows a line and goes to two cards, so measure, which only keeps what it
+// sent, has steps of its own.
 use crate::cards::Cards;
 use crate::line::{data_of, send};
 use crate::talk::Channel;
-use anyhow::anyhow;
+use anyhow::{Context, ensure};
+use apdu::Kind;
 use personalise::KeyLoad;
 use terminal::{
-    Connection, Kind, Master, Offer, Session, connection_object, first_block, master_end_object,
+    Connection, Master, Offer, Session, connection_object, first_block, master_end_object,
     master_object, read_connection, read_master, read_session, reply_wanted, start_object,
 };
 
@@ -30,9 +32,7 @@ pub fn discover(rt: &HostRuntime, cards: &mut Cards) -> anyhow::Result<()> {
 
 // Sends an object in one block.
 pub fn tell(rt: &HostRuntime, cards: &mut Cards, kind: Kind, object: &[u8]) -> anyhow::Result<()> {
-    if object.len() > 255 {
-        return Err(anyhow!("an object too long for one block"));
-    }
+    ensure!(object.len() <= 255, "an object too long for one block");
     let command = first_block(rt.alloc(), kind, object)?;
     let _replies = send(rt, cards, command.as_slice())?;
     Ok(())
@@ -55,10 +55,8 @@ pub fn establish_master(
     println!(rt; "A master: both sides make its secret of the key")?;
     let object = master_object(rt.alloc(), load.reference())?;
     let reply = ask(rt, cards, Kind::Master, object.as_slice())?;
-    match read_master(reply.as_slice()) {
-        Some(master) => Ok(Master::new(load.key(), master.id)),
-        None => Err(anyhow!("the card gave no master")),
-    }
+    let reply = read_master(reply.as_slice()).context("the card gave no master")?;
+    Ok(Master::new(load.key(), reply.id))
 }
 
 // A connection under the master, where the card's MAC is right.
@@ -71,16 +69,10 @@ pub fn establish_connection(
     println!(rt; "A connection: both sides derive its keys, and the card proves that it has them")?;
     let object = connection_object(rt.alloc(), master, &OFFER)?;
     let reply = ask(rt, cards, Kind::Connection, object.as_slice())?;
-    let Some(reply) = read_connection(reply.as_slice()) else {
-        return Err(anyhow!("the card gave no connection"));
-    };
-    match Connection::agreed(master, &OFFER, &reply) {
-        Some(connection) => {
-            println!(rt; "  the card's MAC is right")?;
-            Ok(connection)
-        }
-        None => Err(anyhow!("the card's MAC is wrong")),
-    }
+    let reply = read_connection(reply.as_slice()).context("the card gave no connection")?;
+    let connection = Connection::agreed(master, &OFFER, &reply).context("the card's MAC is wrong")?;
+    println!(rt; "  the card's MAC is right")?;
+    Ok(connection)
 }
 
 // The session of a connection.
@@ -92,10 +84,8 @@ pub fn start(
     println!(rt; "")?;
     println!(rt; "A session, with blocks of up to {CONTAINER} bytes")?;
     let object = start_object(rt.alloc(), &connection, CONTAINER)?;
-    let reply = ask(rt, cards, Kind::Session, object.as_slice())?;
-    let Some(byte) = read_session(reply.as_slice()) else {
-        return Err(anyhow!("the card started no session"));
-    };
+    let reply = ask(rt, cards, Kind::Start, object.as_slice())?;
+    let byte = read_session(reply.as_slice()).context("the card started no session")?;
     let session = Session {
         byte,
         container: CONTAINER,
@@ -118,7 +108,7 @@ pub fn end(
     cards.power_off(rt.alloc())?;
     cards.power_on(rt.alloc())?;
     let object = start_object(rt.alloc(), connection, CONTAINER)?;
-    tell(rt, cards, Kind::Session, object.as_slice())?;
+    tell(rt, cards, Kind::Start, object.as_slice())?;
     let object = master_end_object(rt.alloc(), master)?;
-    tell(rt, cards, Kind::End, object.as_slice())
+    tell(rt, cards, Kind::Terminate, object.as_slice())
 }

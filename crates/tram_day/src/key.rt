@@ -1,6 +1,6 @@
 // The key's load, from the file that the first argument names.
 use crate::cards::Cards;
-use anyhow::anyhow;
+use anyhow::{Context, anyhow};
 use personalise::{KeyLoad, read};
 use show::spaced;
 use std::{env, fs};
@@ -9,9 +9,7 @@ use std::{env, fs};
 fn text(rt: &HostRuntime) -> anyhow::Result<Vec<u8>> {
     let mut words = env::args(rt)?;
     let _program = words.next();
-    let Some(path) = words.next() else {
-        return Err(anyhow!("name the file of a key's load"));
-    };
+    let path = words.next().context("name the file of a key's load")?;
     Ok(fs::read(rt, path.as_str())?)
 }
 
@@ -31,10 +29,7 @@ fn show_limits(rt: &HostRuntime, load: &KeyLoad) -> anyhow::Result<()> {
 // Loads the key into both cards; what the terminal knows of it.
 pub fn load(rt: &HostRuntime, cards: &mut Cards) -> anyhow::Result<KeyLoad> {
     let text = text(rt)?;
-    let load = match read(text.as_slice()) {
-        Ok(load) => load,
-        Err(refusal) => return Err(anyhow!(refusal.words())),
-    };
+    let load = read(text.as_slice()).map_err(|refusal| anyhow!(refusal.words()))?;
     println!(rt; "The key is loaded into both cards, left a fare counter, right a record file")?;
     show_limits(rt, &load)?;
     let number = cards.load(rt.alloc(), text.as_slice())?;

@@ -1,7 +1,7 @@
 // Commands under seal, in blocks, and their answers.
 use crate::cards::{Cards, Replies};
 use crate::line::{data_of, is_marked, send, told};
-use anyhow::anyhow;
+use anyhow::Context;
 use sealer::RealSealer;
 use sealing::Sealer;
 use std::alloc::{AllocError, Global};
@@ -14,7 +14,7 @@ pub struct Channel {
     pub session: Session,
 }
 
-// The last block of a string that was sent, and whether it completed a command.
+// The last block of a string that was sent, and whether it completed a command. The block is there in both cases.
 #[derive(Drop)]
 pub struct Sent {
     pub last: Vec<u8>,
@@ -54,10 +54,9 @@ impl Channel {
 
     // What an application replied to the command of this number, out of its seal.
     fn open(&self, heap: Global, number: u64, string: &mut [u8]) -> anyhow::Result<Vec<u8>> {
-        match self.connection.open(heap, &RealSealer, number, string)? {
-            Some(reply) => Ok(reply),
-            None => Err(anyhow!("the answer does not open")),
-        }
+        self.connection
+            .open(heap, &RealSealer, number, string)?
+            .context("the answer does not open")
     }
 
     // Fetches the answers to the command of this number, opens them, and shows them.

@@ -3,7 +3,7 @@ use crate::cards::Cards;
 use crate::fare::Paid;
 use crate::line::{data_of, send};
 use crate::talk::{Channel, Sent};
-use anyhow::anyhow;
+use anyhow::{Context, ensure};
 use sealer::RealSealer;
 use sealing::Sealer;
 use std::alloc::{AllocError, Global};
@@ -27,9 +27,7 @@ const TOTAL: [u8; 5] = [0x00, 0xCA, 0x00, 0x00, 0x00];
 
 // Notes that a command was accepted; its number.
 fn accept(channel: &mut Channel, sent: &Sent) -> anyhow::Result<u64> {
-    if !sent.complete {
-        return Err(anyhow!("the card did not accept the command"));
-    }
+    ensure!(sent.complete, "the card did not accept the command");
     let number = channel.connection.next();
     channel.connection.accepted();
     Ok(number)
@@ -95,10 +93,8 @@ pub fn receipt(rt: &HostRuntime, cards: &mut Cards, channel: &mut Channel) -> an
 
 // The sum that the fare counter replies.
 fn sum_of(reply: &[u8]) -> Option<u64> {
-    match data_of(reply) {
-        [a, b, c, d, e, f, g, h] => Some(u64::from_be_bytes([*a, *b, *c, *d, *e, *f, *g, *h])),
-        _ => None,
-    }
+    let eight = data_of(reply).as_array()?;
+    Some(u64::from_be_bytes(*eight))
 }
 
 // The depot asks for the sum of the day's fares; then the answer is discarded.
@@ -109,9 +105,7 @@ pub fn total(rt: &HostRuntime, cards: &mut Cards, channel: &mut Channel) -> anyh
     let sent = channel.send(rt, cards, string.as_slice())?;
     let number = accept(channel, &sent)?;
     let replies = channel.answers(rt, cards, number)?;
-    let Some(sum) = sum_of(replies.left.as_slice()) else {
-        return Err(anyhow!("the card gave no total"));
-    };
+    let sum = sum_of(replies.left.as_slice()).context("the card gave no total")?;
     println!(rt; "  the total is {sum}")?;
     let _discarded = send(rt, cards, &channel.session.discard())?;
     Ok(())
