@@ -101,7 +101,7 @@ fn rounds(w: &[u32; 64], v: Eight) -> Eight
     rounds_over(constants().as_chunks().0, w.as_chunks().0, v)
 }
 
-// The sums of eight words with eight others.
+// The sums of eight words with eight others. Letter by letter: by way of arrays it is no shorter, since the letters come back.
 fn add(u: Eight, v: Eight) -> Eight
     ensures { result ≡ added u v }
 {

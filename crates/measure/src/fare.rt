@@ -41,7 +41,7 @@ fn blocks(heap: Global, channel: &Channel, strings: &[Vec<u8>]) -> anyhow::Resul
     Ok(all)
 }
 
-// Sends each block and fetches its answer. The sum of the lengths of all replies.
+// Sends each block and fetches its answer; two sendings a turn read best in a loop. The sum of the lengths of all replies.
 fn ride(
     card: &mut Powered<RealSealer, FareCounter>,
     blocks: &[Vec<u8>],
@@ -57,7 +57,8 @@ fn ride(
     sum
 }
 
-// Opens each string in place and seals an answer to it. The sum of the lengths of all bodies and answers.
+// Opens each string in place and seals an answer to it; in a loop, since each turn writes to the string and the answer. The sum
+// of the lengths of all bodies and answers.
 fn seals(suite: Suite, keys: &[u8; 40], strings: &mut [Vec<u8>], answer: &mut [u8; 288]) -> usize {
     let mut sum = 0usize;
     for string in strings {

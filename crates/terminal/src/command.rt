@@ -19,7 +19,7 @@ pub fn with_data(heap: Global, ins: u8, p1: u8, p2: u8, data: &[u8]) -> Result<V
     with_bytes(header, data)
 }
 
-// The first block of an object.
+// The first block of an object. It and a next block are one call each, and differ in P2; a caller tests the length once.
 pub fn first_block(heap: Global, kind: Kind, block: &[u8]) -> Result<Vec<u8>, AllocError>
     requires { length block.now ≤ 255 }
     ensures { IfOk result (λ v. v.items ≡ command_bytes (manage kind 0x80 (alone block.now))) }

@@ -1,4 +1,5 @@
-// From a powered card to a started session.
+// From a powered card to a started session. Each step shows a line and goes to two cards, so measure, which only keeps what it
+// sent, has steps of its own.
 use crate::cards::Cards;
 use crate::line::{data_of, send};
 use crate::talk::Channel;

@@ -14,7 +14,7 @@ pub struct Channel {
     pub session: Session,
 }
 
-// The last block of a string that was sent, and whether it completed a command.
+// The last block of a string that was sent, and whether it completed a command. The block is there in both cases.
 #[derive(Drop)]
 pub struct Sent {
     pub last: Vec<u8>,
