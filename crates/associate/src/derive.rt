@@ -42,7 +42,7 @@ pub fn new_master(key: &At<Key>, random: &[u8; 32]) -> Master
 fn material(master: &Master, random: &[u8; 32], nonce: &[u8; 16], area: &mut [u8; 64])
     ensures { area.new ≡ material keyed (master_of master.now) random.now nonce.now }
 {
-    *area = expand(&master.secret, &[&random[16..32], nonce]);
+    expand(&master.secret, &[&random[16..32], nonce], area);
 }
 
 // The new connection under a master. Its keys are worked out in the area.

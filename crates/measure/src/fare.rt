@@ -79,9 +79,11 @@ fn seals(suite: Suite, keys: &[u8; 40], strings: &mut [Vec<u8>], answer: &mut [u
 
 // The sealer's keys of a channel.
 fn keys(channel: &Channel, case: &Case) -> [u8; 40] {
-    let area = expand(
+    let mut area = [0; 64];
+    expand(
         channel.master.secret(),
         &[&channel.nonce, &case.offer.nonce],
+        &mut area,
     );
     *area[16..56].as_array().unwrap()
 }
