@@ -20,4 +20,4 @@ returns c =
     let front = take_at one (post_of 0 32 c.args.area.now) 32 long in
     let is-two : two ≡ turn 2 key seed =
     c.copy_from_slice-2.ensures.after ∙ c.string-next.ensures key keyed ∙ ap (λ b. hmac key (b ++ (seed ++ 2 ∷ []))) (front ∙ is_one) in
-    halves one two c.args.area.now long c.well_formed.area ∙ ap (λ y. y ++ two) is_one ∙ ap (λ y. turn 1 key seed ++ y) is-two
+    halves one two c.args.area.now long c.told-area ∙ ap (λ y. y ++ two) is_one ∙ ap (λ y. turn 1 key seed ++ y) is-two
