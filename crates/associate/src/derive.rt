@@ -8,7 +8,6 @@ ghost use Rattle.associate.specs.Said.{cut};
 
 use hmac::{expand, mac};
 use sealing::Suite;
-use table_rows::Row;
 use tables::{At, Connection, Key, Master};
 
 // The identifier that random bytes make.
@@ -33,7 +32,7 @@ pub fn new_master(key: &At<Key>, random: &[u8; 32]) -> Master
     Master {
         id,
         secret: mac(key.item.load.key(), &id),
-        key: key.row,
+        key: key.row.index(),
         count: 0,
     }
 }
@@ -57,11 +56,11 @@ pub fn new_connection(
     ensures unstarted { result.session ≡ None }
 {
     material(&master.item, random, nonce, area);
-    unstarted(identifier(random), master.row, suite, area)
+    unstarted(identifier(random), master.row.index(), suite, area)
 }
 
 // A connection that is not started, with its keys cut from the material.
-fn unstarted(id: [u8; 16], master: Row, suite: Suite, material: &[u8; 64]) -> Connection
+fn unstarted(id: [u8; 16], master: usize, suite: Suite, material: &[u8; 64]) -> Connection
     ensures is { connection_of result ≡ cut id master suite material.now }
     ensures unstarted { result.session ≡ None }
 {

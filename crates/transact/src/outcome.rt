@@ -43,7 +43,7 @@ impl Started {
         ensures none { result ≡ None → session_at (slice_index_or (tables_of core.now.tables).connections row None) ≡ unstarted }
         ensures some { IfSome result (λ s. StartedAt core.now row s) }
     {
-        let connection = core.tables.at::<Connection>(row)?;
+        let connection = core.tables.at::<Connection>(row.index())?;
         let session = connection.session?;
         Some(Started {
             row,
