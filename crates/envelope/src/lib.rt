@@ -20,7 +20,14 @@ pub fn seal_under<C: BlockCipher, I: Integrity>(
     requires { 288 ≤ length out.old }
     ensures { Seals (enciphered C.size (C.enc cipher.now) (I.check mechanism.now) (as_text text.entry)) out.old out.new result }
 {
-    let len = write_frame(mechanism, C::block_len(), text, out);
+    let len = write_frame(
+        mechanism,
+        C::block_len(),
+        text.direction,
+        text.number,
+        text.body,
+        out,
+    );
     cbc_encrypt(cipher, &mut out[0..len], 0);
     len
 }

@@ -1,25 +1,27 @@
 // Writing the frame of a text.
 ghost use Rattle.std.specs.Prelude.{◌≡◌, ◌+◌, ◌%◌, ◌≤◌, ◌⊎◌, ◌++◌, length, take, drop, replicate};
-ghost use Rattle.sealing.specs.Lent.{Seals, as_text};
+ghost use Rattle.sealing.specs.Lent.{Seals};
+ghost use Rattle.sealing.specs.Sealing.{text};
 ghost use Rattle.frame.specs.Frame.{frame, front};
 
 use crate::read::in_blocks;
 use byte_lists::put;
 use integrity::Integrity;
-use sealing::Text;
+use sealing::Direction;
 
 // Writes direction, number, length and body at the start of `out`, and answers where they end.
-fn put_front(text: Text<'_>, out: &mut [u8]) -> usize
-    requires { 288 ≤ length out.old }
-    ensures end { result ≡ 11 + length text.entry.body.now }
-    ensures bytes { out.new ≡ front (as_text text.entry) ++ drop (length (front (as_text text.entry))) out.old }
+fn put_front(direction: Direction, number: u64, body: &[u8], out: &mut [u8]) -> usize
+    requires most { length body.now ≤ 261 }
+    requires room { 288 ≤ length out.old }
+    ensures end { result ≡ 11 + length body.now }
+    ensures bytes { out.new ≡ front (text direction number body.now) ++ drop (length (front (text direction number body.now))) out.old }
 {
-    let len = text.body.len() as u16;
-    put(out, 0, &[u8::from(text.direction)]);
-    put(out, 1, &text.number.to_be_bytes());
+    let len = body.len() as u16;
+    put(out, 0, &[u8::from(direction)]);
+    put(out, 1, &number.to_be_bytes());
     put(out, 9, &len.to_be_bytes());
-    put(out, 11, text.body);
-    11 + text.body.len()
+    put(out, 11, body);
+    11 + body.len()
 }
 
 // Writes the check over the first `end` bytes behind them, and answers where it ends.
@@ -45,20 +47,24 @@ fn put_zeros(out: &mut [u8], at: usize, count: usize)
     put(out, at, &[0u8; 16][0..count]);
 }
 
+// (d) Not a `sealing::Text`: that has two bytes of body at least, and a frame needs none, so the type would ask more of callers.
 // Writes a text's frame at the start of `out`, leaves the rest, and answers the frame's length.
 pub fn write_frame<I: Integrity>(
     mechanism: &I,
     block: usize,
-    text: Text<'_>,
+    direction: Direction,
+    number: u64,
+    body: &[u8],
     out: &mut [u8],
 ) -> usize
     requires block { (block ≡ 8) ⊎ (block ≡ 16) }
+    requires most { length body.now ≤ 261 }
     requires room { 288 ≤ length out.old }
     ensures blocks { result % block ≡ 0 }
     ensures short { result ≤ 288 }
-    ensures frame { Seals (frame block (I.check mechanism.now) (as_text text.entry)) out.old out.new result }
+    ensures frame { Seals (frame block (I.check mechanism.now) (text direction number body.now)) out.old out.new result }
 {
-    let end = put_front(text, out);
+    let end = put_front(direction, number, body, out);
     let checked = put_check(mechanism, out, end);
     let whole = in_blocks(checked, block);
     put_zeros(out, checked, whole - checked);

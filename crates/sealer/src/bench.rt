@@ -16,7 +16,7 @@ impl Sealer for BenchSealer {
     ghost faithful = { bench_faithful };
 
     fn seal(&self, _suite: Suite, _keys: &[u8; 40], text: Text<'_>, out: &mut [u8]) -> usize {
-        write_frame(&Crc32, 8, text, out)
+        write_frame(&Crc32, 8, text.direction, text.number, text.body, out)
     }
 
     fn open(&self, _suite: Suite, _keys: &[u8; 40], string: &mut [u8]) -> Option<Opened> {

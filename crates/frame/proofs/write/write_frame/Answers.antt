@@ -1,8 +1,7 @@
 use Rattle.std.proofs.Common.{◌≡◌, ℕ, ◌+◌, ◌-◌, ◌%◌, ◌≤◌, List, ◌++◌, length, take, drop, replicate, sym, ap, ◌∙◌, arith, length-append}
 use Rattle.std.proofs.lemmas.List.{take_at, length-replicate}
 use Rattle.byte_lists.proofs.Written.{put_more}
-use Rattle.sealing.specs.Sealing.{Text}
-use Rattle.sealing.specs.Lent.{as_text}
+use Rattle.sealing.specs.Sealing.{Text, text}
 use Rattle.frame.specs.Frame.{front, frame, missing}
 use Rattle.frame.proofs.Laws.{length_front}
 use Rattle.frame.proofs.Filled.{filled, filled_short}
@@ -14,7 +13,7 @@ returns g c =
     let n : ℕ = c.args.block in
     let size : ℕ = g.I.Integrity.size in
     let check : List ℕ → List ℕ = g.I.Integrity.check c.args.mechanism.now in
-    let t : Text = as_text c.args.text in
+    let t : Text = text c.args.direction c.args.number c.args.body.now in
     let orig : List ℕ = c.args.out.now in
     let a : List ℕ = c.put_front-end.new.out in
     let b : List ℕ = c.put_check-checked.new.out in
