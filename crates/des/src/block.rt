@@ -31,7 +31,7 @@ impl Block {
         }
     }
 
-    // The word with the right half before the left.
+    // The word with the right half before the left: a step of DES, and so no conversion.
     pub fn crossed(self) -> u64
         ensures { result ≡ self.right * 2 ^ 32 + self.left }
     {

@@ -62,7 +62,7 @@ fn block<C: BlockCipher + Drop, F: FnOnce(&C, &mut [u8])>(
     Ok(out)
 }
 
-// Whole blocks, after `work`.
+// Whole blocks, after `work`. Apart from `block`: with the test of the length as one more closure one text would be longer.
 fn blocks<C: BlockCipher + Drop, F: FnOnce(&C, &mut [u8])>(
     heap: Global,
     cipher: Result<C, Fault>,
