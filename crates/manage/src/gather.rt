@@ -28,7 +28,7 @@ impl Core {
         ensures core { self.new ≡ refused_core self.old status }
     {
         self.pending = Pending::Nothing;
-        if let Status::NotAuthentic = status {
+        if status == Status::NotAuthentic {
             self.count_failure();
         }
         status
