@@ -9,7 +9,7 @@ pub struct Block {
 }
 
 impl Block {
-    // A word cut into its halves; no `From`, which would say less than these two equations.
+    // A word cut into its halves; no `From`, as cutting is a step of the standard with a name of its own.
     pub fn cut(word: u64) -> Block
         ensures left { result.left ≡ word / 2 ^ 32 }
         ensures right { result.right ≡ word % 2 ^ 32 }
