@@ -36,6 +36,8 @@ fn shifted<F: Fn(u32, u32, u32, u32) -> u32>(s: State, made: F) -> State
     }
 }
 
+// The four rounds below are a line each, and each keeps the name and the equation of its step.
+
 // A round: SubBytes, ShiftRows, MixColumns and AddRoundKey.
 pub fn forward(s: State, key: &[u32; 4]) -> State
     ensures { state_bytes result ≡ round (bytes_of key.now) (state_bytes s) }

@@ -1,4 +1,4 @@
-// The bytes of a status word, and what it says in words.
+// The bytes of a status word, and what it says in words: three tables of constants, a line for each word.
 ghost use Rattle.std.specs.Prelude.{◌≡◌, Some, MatchResult, ◌≢◌};
 ghost use Rattle.apdu.specs.StatusWords.{status_bytes, status_words, no_status_words};
 ghost use Rattle.apdu.specs.declared.status.Status.{Status as StatusOf};

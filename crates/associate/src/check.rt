@@ -29,18 +29,15 @@ pub fn below(count: u32, limit: u32) -> Option<()>
 pub fn unused<T: Named>(tables: &Tables, random: &[u8; 32]) -> Option<()>
     ensures { result ≡ unused (found (T.Named.called (id_of random.now)) (T.Named.seen_in (tables_of tables.now))) }
 {
-    match tables.named::<T>(&identifier(random)) {
-        Some(_) => None,
-        None => Some(()),
-    }
+    tables
+        .named::<T>(&identifier(random))
+        .is_none()
+        .then_some(())
 }
 
 // Passes where the connection's session is not started.
 pub fn fresh(connection: &Connection) -> Option<()>
     ensures { result ≡ fresh (connection_of connection.now).session }
 {
-    match connection.session {
-        Some(_) => None,
-        None => Some(()),
-    }
+    connection.session.is_none().then_some(())
 }

@@ -8,7 +8,6 @@ ghost use Rattle.associate.specs.Said.{cut};
 
 use hmac::{expand, mac};
 use sealing::Suite;
-use table_rows::Row;
 use tables::{At, Connection, Key, Master};
 
 // The identifier that random bytes make.
@@ -33,7 +32,7 @@ pub fn new_master(key: &At<Key>, random: &[u8; 32]) -> Master
     Master {
         id,
         secret: mac(key.item.load.key(), &id),
-        key: key.row,
+        key: key.row.index(),
         count: 0,
     }
 }
@@ -42,7 +41,7 @@ pub fn new_master(key: &At<Key>, random: &[u8; 32]) -> Master
 fn material(master: &Master, random: &[u8; 32], nonce: &[u8; 16], area: &mut [u8; 64])
     ensures { area.new ≡ material keyed (master_of master.now) random.now nonce.now }
 {
-    *area = expand(&master.secret, &[&random[16..32], nonce]);
+    expand(&master.secret, &[&random[16..32], nonce], area);
 }
 
 // The new connection under a master. Its keys are worked out in the area.
@@ -57,11 +56,11 @@ pub fn new_connection(
     ensures unstarted { result.session ≡ None }
 {
     material(&master.item, random, nonce, area);
-    unstarted(identifier(random), master.row, suite, area)
+    unstarted(identifier(random), master.row.index(), suite, area)
 }
 
 // A connection that is not started, with its keys cut from the material.
-fn unstarted(id: [u8; 16], master: Row, suite: Suite, material: &[u8; 64]) -> Connection
+fn unstarted(id: [u8; 16], master: usize, suite: Suite, material: &[u8; 64]) -> Connection
     ensures is { connection_of result ≡ cut id master suite material.now }
     ensures unstarted { result.session ≡ None }
 {

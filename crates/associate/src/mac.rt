@@ -7,6 +7,8 @@ ghost use Rattle.associate.specs.Checks.{passes};
 use hmac::{mac, mac_joined};
 use secret::same;
 
+// The two below are a line each: one for both would leave the joining of the parts to the proofs of its callers.
+
 // Passes the code of a start: over the identifier and the container's size.
 pub fn start_mac(
     key: &[u8],

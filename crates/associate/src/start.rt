@@ -10,7 +10,7 @@ use crate::mac::start_mac;
 use apdu::Status;
 use objects::request::StartRequest;
 use replies::reply::Reply;
-use session::{Session, Talk};
+use session::Session;
 use table_rows::Row;
 use tables::{Connection, Tables};
 
@@ -37,13 +37,7 @@ pub fn start(
     let Some(()) = start_mac(&connection.item.mac, id, container, mac, area) else {
         return Err(Status::NotAuthentic);
     };
-    tables.start(
-        connection,
-        Session {
-            container,
-            talk: Talk::Idle,
-        },
-    );
+    tables.start(connection, Session::started(container));
     Ok(Reply::Session(session_byte(connection.row)))
 }
 

@@ -16,6 +16,7 @@ fn chain<F: Fn(&mut [u8], &mut [u8])>(buf: &mut [u8], from: usize, n: usize, lin
         → Links (F.post link) out next
         → buf.new ≡ take from buf.old ++ chained n out next (length (drop from buf.old) / n) (replicate n 0) (drop from buf.old) }
 {
+    // Of fixed size, as the card has no heap; a block has 8 bytes or 16.
     let mut before = [0u8; 16];
     // Over `chunks_exact_mut` no proof knows what the buffer is after the loop.
     for at in (from..buf.len()).step_by(n) {

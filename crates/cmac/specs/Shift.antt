@@ -36,9 +36,21 @@ get_or_shifted (x ∷ xs) zero h = refl
 get_or_shifted (x ∷ xs) (suc i) h = get_or_shifted xs i (le_of_suc-le-suc h)
 
 -- The step of a loop that shifts a block from the front.
-pub shift_more : (xs b : List ℕ) (i r : ℕ) → i < length xs → b ≡ over (shifted xs) xs i → r ≡ slice_index b i * 2 % 256 + slice_index xs (i + 1) / 128
+pub shift_more : (xs b : List ℕ) (i r : ℕ) → i < length xs → b ≡ over (shifted xs) xs i → r ≡ slice_index b i * 2 % 256 + slice_index b (i + 1) / 128
     → slice_set b i r ≡ over (shifted xs) xs (i + 1)
 shift_more xs b i r h e v =
+    let long : length (shifted xs) ≡ length xs = length_shifted xs in
+    let here : slice_index_or b i 0 ≡ slice_index_or xs i 0 = ap (λ zs. slice_index zs i) e ∙ over_rest (shifted xs) xs i i (omega arith) (omega arith) in
+    let behind : slice_index_or b (i + 1) 0 ≡ slice_index_or xs (i + 1) 0 = ap (λ zs. slice_index zs (i + 1)) e ∙ over_rest (shifted xs) xs i (i + 1) (omega arith) (omega arith) in
+    let value : r ≡ slice_index_or (shifted xs) i 0 =
+    v ∙ ap (λ n. n * 2 % 256 + slice_index b (i + 1) / 128) here ∙ ap (λ n. slice_index xs i * 2 % 256 + n / 128) behind
+    ∙ ap (λ j. slice_index xs i * 2 % 256 + slice_index xs j / 128) (add-one i) ∙ sym (get_or_shifted xs i h) in
+    ap (λ zs. set zs i r) e ∙ ap (set (over (shifted xs) xs i) i) value ∙ over_more (shifted xs) xs i 0 long (omega arith)
+
+-- The same, where the byte behind is read from the block as it was.
+pub shift_on : (xs b : List ℕ) (i r : ℕ) → i < length xs → b ≡ over (shifted xs) xs i → r ≡ slice_index b i * 2 % 256 + slice_index xs (i + 1) / 128
+    → slice_set b i r ≡ over (shifted xs) xs (i + 1)
+shift_on xs b i r h e v =
     let long : length (shifted xs) ≡ length xs = length_shifted xs in
     let here : slice_index_or b i 0 ≡ slice_index_or xs i 0 = ap (λ zs. slice_index zs i) e ∙ over_rest (shifted xs) xs i i (omega arith) (omega arith) in
     let value : r ≡ slice_index_or (shifted xs) i 0 =

@@ -9,7 +9,7 @@ pub struct Block {
 }
 
 impl Block {
-    // A word cut into its halves; no `From`, which would say less than these two equations.
+    // A word cut into its halves; no `From`, as cutting is a step of the standard with a name of its own.
     pub fn cut(word: u64) -> Block
         ensures left { result.left ≡ word / 2 ^ 32 }
         ensures right { result.right ≡ word % 2 ^ 32 }
@@ -31,7 +31,7 @@ impl Block {
         }
     }
 
-    // The word with the right half before the left.
+    // The word with the right half before the left: a step of DES, and so no conversion.
     pub fn crossed(self) -> u64
         ensures { result ≡ self.right * 2 ^ 32 + self.left }
     {

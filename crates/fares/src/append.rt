@@ -32,7 +32,8 @@ impl FareCounter {
         &self.fares[..self.count]
     }
 
-    // Appends the fare that the data names, if it names one and there is room.
+    // Appends the fare that the data names, if it names one and there is room. The answer is the reply's status word, done or
+    // not, so it is no Result.
     pub(crate) fn append(&mut self, data: &[u8]) -> Status
         ensures says { reply [] result ≡ (appending (fares_of self.old) (fare_in «data».now)).reply }
         ensures holds { fares_of self.new ≡ (appending (fares_of self.old) (fare_in «data».now)).contents }

@@ -15,7 +15,7 @@ fn is_blank(bytes: &[u8]) -> bool
     bytes.iter().all(|b| *b == 0)
 }
 
-// (d) A block's length is no type of its own: ciphers have it as a plain number, and each caller would make one.
+// A block's length is no type of its own: ciphers have it as a plain number, and each caller would make one.
 // So many bytes, and the fewest more that make whole blocks.
 pub fn in_blocks(len: usize, block: usize) -> usize
     requires { (len ≤ 288) × ((1 ≤ block) × (block ≤ 16)) }

@@ -18,14 +18,12 @@ fn string(code: Hmac, before: &[u8], seed: &[&[u8]], number: u8) -> [u8; 32]
     next.finish()
 }
 
-// The 64 bytes T1 ‖ T2 of a key and of a seed in parts. T1 has nothing before it, and T2 has T1.
-pub fn expand(key: &[u8], seed: &[&[u8]]) -> [u8; 64]
-    ensures { result ≡ expanded key.now (flat_map (λ part. part.now) seed.now) }
+// Writes the 64 bytes T1 ‖ T2 of a key and of a seed in parts. T1 has nothing before it, and T2 has T1.
+pub fn expand(key: &[u8], seed: &[&[u8]], area: &mut [u8; 64])
+    ensures { area.new ≡ expanded key.now (flat_map (λ part. part.now) seed.now) }
 {
     let code = Hmac::new(key);
-    let first = string(code, &[], seed, 1);
-    let second = string(code, &first, seed, 2);
-    let mut both = [0; 64];
-    both.copy_from_slice([first, second].as_flattened());
-    both
+    area[0..32].copy_from_slice(&string(code, &[], seed, 1));
+    let next = string(code, &area[0..32], seed, 2);
+    area[32..64].copy_from_slice(&next);
 }

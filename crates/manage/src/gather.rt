@@ -28,7 +28,7 @@ impl Core {
         ensures core { self.new ≡ refused_core self.old status }
     {
         self.pending = Pending::Nothing;
-        if let Status::NotAuthentic = status {
+        if status == Status::NotAuthentic {
             self.count_failure();
         }
         status
@@ -54,9 +54,14 @@ impl Core {
             }
         }
     }
-    // A whole object is carried out. The area stays a slice with its bound: the host may lend more than 64 bytes.
-    fn carry_out(&mut self, kind: Kind, value: &[u8], random: &[u8; 32], area: &mut [u8]) -> Status
-        requires area { 64 ≤ length area.old }
+    // A whole object is carried out.
+    fn carry_out(
+        &mut self,
+        kind: Kind,
+        value: &[u8],
+        random: &[u8; 32],
+        area: &mut [u8; 64],
+    ) -> Status
         ensures { Said (decides keyed (core_of self.old) random.now (kind_of kind) (asked (kind_of kind) value.now) (verdict keyed (tables_of self.old.tables) random.now (asked (kind_of kind) value.now))) self.old self.new result }
     {
         match carry_out(&mut self.tables, kind, value, random, area) {
@@ -66,8 +71,7 @@ impl Core {
     }
 
     // Joined blocks: no object, the beginning of one, or a whole one.
-    fn judge(&mut self, kind: Kind, bytes: &[u8], random: &[u8; 32], area: &mut [u8]) -> Status
-        requires area { 64 ≤ length area.old }
+    fn judge(&mut self, kind: Kind, bytes: &[u8], random: &[u8; 32], area: &mut [u8; 64]) -> Status
         ensures { Said (joined keyed (core_of self.old) random.now (kind_of kind) bytes.now (object bytes.now)) self.old self.new result }
     {
         match read_object(bytes) {
@@ -89,10 +93,9 @@ impl Core {
         gathered: &[u8],
         body: Body<'_>,
         random: &[u8; 32],
-        area: &mut [u8],
+        area: &mut [u8; 64],
     ) -> Status
-        requires gathered { length gathered.now ≤ 288 }
-        requires area { 64 ≤ length area.old }
+        requires { length gathered.now ≤ 288 }
         ensures { Said (joins keyed (core_of self.old) random.now (kind_of kind) gathered.now (shape_of body.entry)) self.old self.new result }
     {
         let Some(part) = body.data_alone() else {
@@ -114,6 +117,7 @@ impl Core {
         requires area { 64 ≤ length area.old }
         ensures { Said (joins keyed (core_of self.old) random.now (kind_of kind) [] (shape_of body.entry)) self.old self.new result }
     {
+        let area = area.first_chunk_mut::<64>().unwrap();
         self.join(kind, &[], body, random, area)
     }
 
@@ -124,9 +128,8 @@ impl Core {
         gathered: Gathered,
         body: Body<'_>,
         random: &[u8; 32],
-        area: &mut [u8],
+        area: &mut [u8; 64],
     ) -> Status
-        requires area { 64 ≤ length area.old }
         ensures { Said (continues_as keyed (core_of self.old) random.now (kind_of kind) (held gathered.bytes) (shape_of body.entry) (same_kind (kind_of gathered.kind) (kind_of kind))) self.old self.new result }
     {
         if gathered.kind != kind {
@@ -146,6 +149,7 @@ impl Core {
         requires area { 64 ≤ length area.old }
         ensures { Said (continues keyed (core_of self.old) random.now (kind_of kind) (shape_of body.entry) (pending_of self.old.pending)) self.old self.new result }
     {
+        let area = area.first_chunk_mut::<64>().unwrap();
         match self.pending {
             Pending::Object(gathered) => self.join_as(kind, gathered, body, random, area),
             Pending::Nothing => Status::NotNow,

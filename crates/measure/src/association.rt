@@ -42,7 +42,8 @@ fn agreement(key: &[u8], channel: &Channel) -> [u8; 32] {
 // they are those that were sent.
 fn codes(key: &[u8; 32], channel: &Channel) -> bool {
     let secret = mac(key, channel.master.id());
-    let area = expand(&secret, &[&channel.nonce, &AES.offer.nonce]);
+    let mut area = [0; 64];
+    expand(&secret, &[&channel.nonce, &AES.offer.nonce], &mut area);
     let agreement = agreement(&area[0..16], channel);
     let start = mac_joined(&area[0..16], &[channel.connection.id(), &[CONTAINER]]);
     agreement[0..16] == channel.agreement[0..16] && start[0..16] == channel.start[0..16]

@@ -20,7 +20,7 @@ const KEPT: [u8; 2] = [0x90, 0x00];
 // The command that has the fare counter append a fare.
 const FARE: [u8; 10] = [0x00, 0xE2, 0x00, 0x00, 0x05, 0x01, 0x00, 0x00, 0x01, 0x2C];
 
-// The sealed strings of a burst, in order.
+// The sealed strings of a burst, in order; in a loop, since sealing may fail and the count goes on with it.
 fn strings(heap: Global, channel: &Channel) -> anyhow::Result<Vec<Vec<u8>>> {
     let mut connection = channel.connection;
     let mut all = Vec::new(heap);
@@ -31,7 +31,7 @@ fn strings(heap: Global, channel: &Channel) -> anyhow::Result<Vec<Vec<u8>>> {
     Ok(all)
 }
 
-// The commands that carry them.
+// The commands that carry them; in a loop, since each may fail in two ways.
 fn blocks(heap: Global, channel: &Channel, strings: &[Vec<u8>]) -> anyhow::Result<Vec<Vec<u8>>> {
     let mut all = Vec::new(heap);
     for string in strings {
@@ -79,9 +79,11 @@ fn seals(suite: Suite, keys: &[u8; 40], strings: &mut [Vec<u8>], answer: &mut [u
 
 // The sealer's keys of a channel.
 fn keys(channel: &Channel, case: &Case) -> [u8; 40] {
-    let area = expand(
+    let mut area = [0; 64];
+    expand(
         channel.master.secret(),
         &[&channel.nonce, &case.offer.nonce],
+        &mut area,
     );
     *area[16..56].as_array().unwrap()
 }

@@ -18,12 +18,8 @@ fn read_digits(text: &[u8], top: u64) -> Option<u64>
     ensures value { result ≡ upto top (digits 0 text.now) }
     ensures within { IfSome result (λ n. n ≤ top) }
 {
-    // Not by `try_fold`, which is no shorter.
-    let mut value = 0;
-    for c in text {
-        value = with_digit(value, *c, top)?;
-    }
-    Some(value)
+    text.iter()
+        .try_fold(0, |value, c| with_digit(value, *c, top))
 }
 
 // The number with one digit more.

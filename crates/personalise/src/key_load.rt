@@ -35,13 +35,12 @@ impl KeyLoad {
         if is_malformed(masters) || is_malformed(connections) || is_malformed(transactions) {
             return Err(Refusal::Malformed);
         }
-        // The casts lose nothing, by what is required; `try_from` would add refusals that cannot come.
         Ok(KeyLoad {
             reference,
             key,
             weak,
-            masters: masters? as u16,
-            connections: connections? as u32,
+            masters: u16::try_from(masters?).unwrap(),
+            connections: u32::try_from(connections?).unwrap(),
             transactions: transactions?,
         })
     }

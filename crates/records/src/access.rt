@@ -41,7 +41,7 @@ impl RecordFile {
         Some(&self.records[place][..16])
     }
 
-    // Writes the data to the record with this number.
+    // Writes the data to the record with this number. The answer is the reply's status word, done or not, so it is no Result.
     pub(crate) fn write(&mut self, number: u8, data: &[u8]) -> Status
         ensures says { reply [] result ≡ (write_at (records_of self.old) (placed number) «data».now).reply }
         ensures holds { records_of self.new ≡ (write_at (records_of self.old) (placed number) «data».now).contents }

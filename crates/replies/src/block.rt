@@ -3,7 +3,7 @@ ghost use Rattle.std.specs.Prelude.{◌≡◌, ◌<◌};
 ghost use Rattle.std.specs.Option.{option_map};
 ghost use Rattle.replies.specs.Blocks.{seen, front_of, block_of, cut_block, cut_count};
 
-/// A part of a string of bytes.
+/// A part of a string of bytes. Both are there in every case, so it is no Option.
 #[derive(Clone, Copy)]
 pub struct Block<'a> {
     pub bytes: &'a [u8],

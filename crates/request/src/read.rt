@@ -91,7 +91,7 @@ impl<'a> Request<'a> {
     pub fn read(apdu: &'a [u8]) -> Request<'a>
         ensures { asks result ≡ request apdu.now }
     {
-        // A match: the toolchain finds no proof of `map_or` here, where it is handed `by_header` as a function.
+        // A match: the toolchain finds no proof of `map_or` here, neither handed `by_header` as a function nor by a closure that calls it.
         match Apdu::read(apdu) {
             Some(command) => Request::by_header(command),
             None => Request::Malformed,

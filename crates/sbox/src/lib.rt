@@ -1,4 +1,5 @@
-// The tables of AES: substitution, its inverse, and words of products.
+// The tables of AES: substitution, its inverse, and words of products. Four look-ups in four tables with four equations, which
+// share nothing but the index.
 #![tactic(auto)]
 
 mod inverse;

@@ -26,7 +26,7 @@ pub fn two_key(keys: &[u8; 40]) -> Triple<Des>
     Triple::new(first, second, first)
 }
 
-// Triple DES with three keys. (d) Not one function with `two_key`, by the third key's place: that one makes its first key once.
+// Triple DES with three keys. Not one function with `two_key`, by the third key's place: that one makes its first key once.
 pub fn three_key(keys: &[u8; 40]) -> Triple<Des>
     ensures encrypts { in_turn (encrypts result.first.keys) (decrypts result.second.keys) (encrypts result.third.keys) ≡ enciphers ThreeKey keys.now }
     ensures decrypts { in_turn (decrypts result.third.keys) (encrypts result.second.keys) (decrypts result.first.keys) ≡ deciphers ThreeKey keys.now }

@@ -63,6 +63,8 @@ fn opened(
     open_text(suite, keys, string, out)
 }
 
+// The parameters are those of the C interface.
+
 // Seals the text of this direction, number and body: writes the sealed string at the start of `out`, and answers its length.
 // A refusal writes nothing and answers its number.
 #[unsafe(no_mangle)]

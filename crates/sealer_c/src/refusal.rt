@@ -14,7 +14,7 @@ pub enum Refusal {
     Shut,
 }
 
-// The number that the caller gets. (a) The numbers 7 and 8 are the C interface's.
+// The number that the caller gets. The numbers 7 and 8 are the C interface's.
 impl From<Refusal> for usize {
     ghost from_gives = { λ refusal n. n ≡ refusal_number refusal };
 

@@ -1,5 +1,5 @@
 -- The byte that stands for each cipher, mechanism and direction, and the suite of two bytes.
-use Rattle.std.specs.Prelude.{ℕ, cond, Some, None, Option, ◌==◌}
+use Rattle.std.specs.Prelude.{ℕ, List, codes, cond, Some, None, Option, ◌==◌}
 use Rattle.sealing.specs.declared.suite.Cipher.{Cipher}
 use Rattle.sealing.specs.declared.suite.Cipher.TheVariants.{TwoKey, ThreeKey, Aes}
 use Rattle.sealing.specs.declared.suite.Mechanism.{Mechanism}
@@ -42,3 +42,7 @@ suite_with None m = None
 -- The suite of a cipher's byte and a mechanism's byte.
 abbrev pub suite_of : ℕ → ℕ → Option Suite
 suite_of c m = suite_with (cipher_of c) (mechanism_of m)
+
+-- What is said of a byte that stands for nothing.
+abbrev pub unknown_byte_words : List ℕ
+unknown_byte_words = codes "the byte stands for nothing that is known"

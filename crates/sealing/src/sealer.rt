@@ -11,7 +11,7 @@ use crate::text::Text;
 pub struct Opened {
     pub direction: Direction,
     pub number: u64,
-    // (d) Not the body itself, lent out of the string: what the string ends as is then no `string.new`, but a clause over names.
+    // Not the body itself, lent out of the string: what the string ends as is then no `string.new`, but a clause over names.
     pub at: usize,
     pub len: usize,
 }
@@ -21,7 +21,7 @@ pub trait Sealer {
     // What sealing and opening mean.
     ghost seals: { Sealing };
 
-    // (d) `out` is no type of its own with the room: each caller has an array, and would wrap it. Here and below this trait.
+    // `out` is no type of its own with the room: each caller has an array, and would wrap it. Here and below this trait.
     // Writes the sealed string at the start of `out`, leaves the rest of it, and answers the string's length.
     fn seal(&self, suite: Suite, keys: &[u8; 40], text: Text<'_>, out: &mut [u8]) -> usize
         requires { 288 ≤ length out.old }

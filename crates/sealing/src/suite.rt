@@ -1,7 +1,7 @@
 // Suites and directions, and the byte that stands for each.
-ghost use Rattle.std.specs.Prelude.{◌≡◌, slice_index};
+ghost use Rattle.std.specs.Prelude.{◌≡◌, slice_index, Some};
 ghost use Rattle.std.specs.Option.{ok_or};
-ghost use Rattle.sealing.specs.Suites.{cipher_byte, cipher_of, mechanism_byte, mechanism_of, direction_byte, direction_of, suite_of};
+ghost use Rattle.sealing.specs.Suites.{cipher_byte, cipher_of, mechanism_byte, mechanism_of, direction_byte, direction_of, suite_of, unknown_byte_words};
 
 use std::error::Error;
 use std::fmt;
@@ -44,12 +44,16 @@ pub enum Direction {
 pub struct UnknownByte;
 
 impl fmt::Display for UnknownByte {
+    ghost output = { λ _. Some unknown_byte_words };
+
     fn fmt<W: fmt::Write>(&self, f: &mut fmt::Formatter<W>) -> fmt::Result {
         f.write_str("the byte stands for nothing that is known")
     }
 }
 
 impl Error for UnknownByte {}
+
+// The three pairs of tables differ in all but their shape; each is an impl of two traits of std.
 
 // The byte that stands for the cipher.
 impl From<Cipher> for u8 {

@@ -7,6 +7,7 @@ ghost use Rattle.law.specs.Step.{holds_talk};
 ghost use Rattle.law.specs.Tables.{started, idle, answered};
 ghost use Rattle.replies.specs.Blocks.{seen, cut_block};
 ghost use Rattle.session.specs.View.{block_of, talk_of, answer_in, session_of};
+ghost use Rattle.session.specs.declared.state.Talk.TheVariants.{Idle};
 ghost use Rattle.session.specs.Heard.{completed_as};
 
 use crate::state::{Block, Held, Session, Talk};
@@ -18,6 +19,7 @@ impl Session {
     pub fn started(container: u8) -> Session
         ensures session { session_of (Some result) ≡ started container idle }
         ensures answer { answer_in result.talk ≡ [] }
+        ensures idle { result.talk ≡ Idle }
     {
         Session {
             container,

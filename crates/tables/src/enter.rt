@@ -24,7 +24,7 @@ impl Tables {
         self.keys[row.index()] = Some(Key { load, count: 0 });
     }
 
-    // Puts a master into the row, and counts it at its key.
+    // Puts a master into the row, and counts it at its key. A connection is counted at another table, with another bound.
     pub fn enter_master(&mut self, key: At<Key>, row: Row, master: Master)
         requires { key.item.count < 65535 }
         ensures tables { tables_of self.new ≡ master_entered (tables_of self.old) key.row (key_of key.item) row (master_of master) }

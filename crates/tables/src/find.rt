@@ -29,12 +29,12 @@ fn first_free<T: Copy>(rows: &[Option<T>]) -> Option<usize>
 }
 
 impl Tables {
-    // What this row holds.
-    pub fn at<T: Named>(&self, row: Row) -> Option<T>
+    // What this row holds; none where there is no such row.
+    pub fn at<T: Named>(&self, row: usize) -> Option<T>
         ensures held { result ≡ slice_index_or (T.Named.held_in self.now) row None }
         ensures seen { option_map T.Named.seen result ≡ slice_index_or (T.Named.seen_in (tables_of self.now)) row None }
     {
-        T::rows(self).get(row.index()).copied().flatten()
+        T::rows(self).get(row).copied().flatten()
     }
 
     // The first item that has this name, and its row.
@@ -45,8 +45,8 @@ impl Tables {
         let rows = T::rows(self);
         let index = first_named(rows, name)?;
         Some(At {
-            row: Row::at(index)?,
-            item: rows[index]?,
+            row: Row::at(index).unwrap(),
+            item: rows[index].unwrap(),
         })
     }
 

@@ -4,7 +4,6 @@ ghost use Rattle.law.specs.Associations.{connections_limit, key_row, transaction
 ghost use Rattle.tables.specs.View.{master_of, tables_of};
 
 use crate::rows::{Key, Master, Tables};
-use table_rows::Row;
 
 impl Tables {
     // How many connections a master may yield: none where its key is gone.
@@ -16,15 +15,14 @@ impl Tables {
     }
 
     // The row of the key that the master of this row rests on.
-    fn key_row(&self, master: Row) -> Row
+    fn key_row(&self, master: usize) -> usize
         ensures { result ≡ key_row (slice_index_or (tables_of self.now).masters master None) }
     {
-        self.at::<Master>(master)
-            .map_or(Row::FIRST, |held| held.key)
+        self.at::<Master>(master).map_or(0, |held| held.key)
     }
 
     // How many commands a connection may accept that rests on the master of this row.
-    pub fn transactions_limit(&self, master: Row) -> u64
+    pub fn transactions_limit(&self, master: usize) -> u64
         ensures { result ≡ transactions_limit (tables_of self.now).keys (tables_of self.now).masters master }
     {
         self.at::<Key>(self.key_row(master))

@@ -21,7 +21,8 @@ impl Tables {
         ensures tables { tables_of self.new ≡ without_master (tables_of self.old) row }
         ensures answers { Keeps self.old self.new }
     {
-        self.masters[row.index()] = None;
+        let row = row.index();
+        self.masters[row] = None;
         retain(&mut self.connections, |connection| connection.master != row);
     }
 
@@ -30,14 +31,15 @@ impl Tables {
         ensures tables { tables_of self.new ≡ without_key (tables_of self.old) row }
         ensures answers { Keeps self.old self.new }
     {
-        self.keys[row.index()] = None;
+        let row = row.index();
+        self.keys[row] = None;
         retain(&mut self.masters, |master| master.key != row);
         let masters = &self.masters;
         retain(
             &mut self.connections,
             |connection|
                 ensures { result ≡ is_some (slice_index_or masters.entry.now connection.now.master None) }
-            { masters[connection.master.index()].is_some() },
+            { masters.get(connection.master).copied().flatten().is_some() },
         );
     }
 }

@@ -2,7 +2,6 @@
 use personalise::KeyLoad;
 use sealing::Suite;
 use session::Session;
-use table_rows::Row;
 
 // A key: what its load said, and how many masters it has yielded.
 #[derive(Clone, Copy)]
@@ -16,7 +15,7 @@ pub struct Key {
 pub struct Master {
     pub id: [u8; 16],
     pub secret: [u8; 32],
-    pub key: Row,
+    pub key: usize,
     pub count: u32,
 }
 
@@ -25,7 +24,7 @@ pub struct Master {
 #[derive(Clone, Copy)]
 pub struct Connection {
     pub id: [u8; 16],
-    pub master: Row,
+    pub master: usize,
     pub suite: Suite,
     pub mac: [u8; 16],
     pub keys: [u8; 40],

@@ -12,27 +12,11 @@ use std::alloc::{AllocError, Global};
 // The most bytes that a sealed string has.
 const LONGEST: usize = 288;
 
-// Room for a sealed string.
-fn blank() -> [u8; LONGEST]
-    ensures { length result ≡ 288 }
-{
-    [0; LONGEST]
-}
-
 // An opened text, where it is the answer to the command of this number.
 fn answering(opened: Opened, number: u64) -> Option<Opened>
     ensures { result ≡ (if is_reply opened.direction && opened.number == number then Some opened else None) }
 {
-    match opened.direction {
-        Direction::Command => None,
-        Direction::Reply => {
-            if opened.number == number {
-                Some(opened)
-            } else {
-                None
-            }
-        }
-    }
+    (opened.direction == Direction::Reply && opened.number == number).then_some(opened)
 }
 
 impl Connection {
@@ -52,7 +36,7 @@ impl Connection {
             number: self.count,
             body,
         };
-        let mut out = blank();
+        let mut out = [0; LONGEST];
         let len = sealer.seal(self.suite, &self.secrets.keys, text, &mut out);
         Vec::from_slice(heap, &out[0..len])
     }

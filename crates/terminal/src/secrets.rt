@@ -19,7 +19,8 @@ pub fn derive(secret: &[u8], card_nonce: &[u8], own_nonce: &[u8]) -> Secrets
     ensures mac { result.mac ≡ mac_key (material secret.now card_nonce.now own_nonce.now) }
     ensures keys { result.keys ≡ sealer_keys (material secret.now card_nonce.now own_nonce.now) }
 {
-    let area = expand(secret, &[card_nonce, own_nonce]);
+    let mut area = [0; 64];
+    expand(secret, &[card_nonce, own_nonce], &mut area);
     Secrets {
         mac: *area[0..16].as_array().unwrap(),
         keys: *area[16..56].as_array().unwrap(),

@@ -17,6 +17,7 @@ use tables::Connection;
 pub struct Accepted {
     number: u64,
     at: usize,
+    // The place and the length of its body, not the body: the text could not be used while the token lived.
     len: usize,
 }
 

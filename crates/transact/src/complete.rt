@@ -23,7 +23,8 @@ impl<S: Sealer, A: Application> Parts<S, A> {
     // and the connection is removed; or it is accepted and counted, the application runs, and its sealed reply waits in the row.
     pub(crate) fn complete(&mut self, started: &Started) -> Status
         requires gathers { talk_of started.now.session.talk ≡ gathering (before (talk_of started.now.session.talk)) (last_of (talk_of started.now.session.talk)) }
-        ensures { carries S.seals A.acts (state_of self.old.core (A.contents self.old.application)) (judges S.seals (core_of self.old.core) started.now.row (connection_of started.now.connection) started.now.session.container (last_of (talk_of started.now.session.talk)) (judged S.seals (connection_of started.now.connection) (transactions_limit (tables_of self.old.core.tables).keys (tables_of self.old.core.tables).masters started.now.connection.master) (before (talk_of started.now.session.talk)))) ≡ ended self.new.core (A.contents self.new.application) result }
+        ensures step { carries S.seals A.acts (state_of self.old.core (A.contents self.old.application)) (judges S.seals (core_of self.old.core) started.now.row (connection_of started.now.connection) started.now.session.container (last_of (talk_of started.now.session.talk)) (judged S.seals (connection_of started.now.connection) (transactions_limit (tables_of self.old.core.tables).keys (tables_of self.old.core.tables).masters started.now.connection.master) (before (talk_of started.now.session.talk)))) ≡ ended self.new.core (A.contents self.new.application) result }
+        ensures sealer { self.new.sealer ≡ self.old.sealer }
     {
         let limit = self
             .core

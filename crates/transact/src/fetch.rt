@@ -22,7 +22,9 @@ use table_rows::Row;
 impl<S: Sealer, A: Application> Parts<S, A> {
     // P1 + 2: a discard makes the session idle.
     pub fn discard(&mut self, row: Row, body: Body<'_>) -> Status
-        ensures { carries S.seals A.acts (state_of self.old.core (A.contents self.old.application)) (discards (core_of self.old.core) row (shape_of body.entry) (slice_index_or (tables_of self.old.core.tables).connections row None)) ≡ ended self.new.core (A.contents self.new.application) result }
+        ensures step { carries S.seals A.acts (state_of self.old.core (A.contents self.old.application)) (discards (core_of self.old.core) row (shape_of body.entry) (slice_index_or (tables_of self.old.core.tables).connections row None)) ≡ ended self.new.core (A.contents self.new.application) result }
+        ensures sealer { self.new.sealer ≡ self.old.sealer }
+        ensures application { self.new.application ≡ self.old.application }
     {
         let Some(mut started) = Started::at(&self.core, row) else {
             return Status::NotNow;

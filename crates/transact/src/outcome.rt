@@ -39,11 +39,11 @@ pub fn said(row: Row, heard: Heard) -> Status
 
 impl Started {
     // The started session of a row; none where the row is free, or its connection's session is not started.
-    pub fn at(core: &Core, row: Row) -> Option<Started>
+    pub(crate) fn at(core: &Core, row: Row) -> Option<Started>
         ensures none { result ≡ None → session_at (slice_index_or (tables_of core.now.tables).connections row None) ≡ unstarted }
         ensures some { IfSome result (λ s. StartedAt core.now row s) }
     {
-        let connection = core.tables.at::<Connection>(row)?;
+        let connection = core.tables.at::<Connection>(row.index())?;
         let session = connection.session?;
         Some(Started {
             row,
@@ -64,7 +64,7 @@ impl Started {
     }
 
     // The session goes on as it is now, and holds no answer.
-    pub fn go_on(&self, core: &mut Core)
+    pub(crate) fn go_on(&self, core: &mut Core)
         requires silent { holds_talk (talk_of self.now.session.talk) ≡ false }
         ensures core { core_of core.new ≡ put (core_of core.old) (talks (core_of core.old) self.now.row (connection_of self.now.connection) self.now.session.container (talk_of self.now.session.talk)) (core_of core.old).pending }
         ensures answers { Keeps core.old.tables core.new.tables }
@@ -73,7 +73,7 @@ impl Started {
     }
 
     // A command that does not open as it must: the session goes idle, and the failure is counted.
-    pub fn fail(&self, core: &mut Core) -> Status
+    pub(crate) fn fail(&self, core: &mut Core) -> Status
         ensures { Said (says (failed (core_of core.old) (talks (core_of core.old) self.now.row (connection_of self.now.connection) self.now.session.container idle) (core_of core.old).pending) sw.NotAuthentic) core.old core.new result }
     {
         let idle = Started {
@@ -86,7 +86,7 @@ impl Started {
     }
 
     // A command that opens, beyond the limit: the connection is removed.
-    pub fn remove(&self, core: &mut Core) -> Status
+    pub(crate) fn remove(&self, core: &mut Core) -> Status
         ensures { Said (says (put (core_of core.old) (without_connection (core_of core.old).tables self.now.row) (core_of core.old).pending) sw.LimitPassed) core.old core.new result }
     {
         core.tables.remove_connection(self.row);
@@ -94,7 +94,7 @@ impl Started {
     }
 
     // The connection, one command on, with the answer to what its session has gathered.
-    pub fn answered(&self, answer: Buffer) -> Connection
+    pub(crate) fn answered(&self, answer: Buffer) -> Connection
         requires below { self.now.connection.count < 18446744073709551615 }
         requires holds { holds_talk (completed_as (talk_of self.now.session.talk)) ≡ true }
         ensures seen { connection_of result ≡ with_session (connection_of self.now.connection) (self.now.connection.count + 1) (started self.now.session.container (completed_as (talk_of self.now.session.talk))) }

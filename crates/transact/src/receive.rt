@@ -22,7 +22,8 @@ impl<S: Sealer, A: Application> Parts<S, A> {
     // A block that was joined to those before: the last one completes the command, any other is kept.
     fn join(&mut self, started: &Started, p2: u8) -> Status
         requires { talk_of started.now.session.talk ≡ gathering (before (talk_of started.now.session.talk)) (last_of (talk_of started.now.session.talk)) }
-        ensures { carries S.seals A.acts (state_of self.old.core (A.contents self.old.application)) (completes S.seals (core_of self.old.core) started.now.row (connection_of started.now.connection) started.now.session.container (last_of (talk_of started.now.session.talk)) (before (talk_of started.now.session.talk)) (p2 == 0)) ≡ ended self.new.core (A.contents self.new.application) result }
+        ensures step { carries S.seals A.acts (state_of self.old.core (A.contents self.old.application)) (completes S.seals (core_of self.old.core) started.now.row (connection_of started.now.connection) started.now.session.container (last_of (talk_of started.now.session.talk)) (before (talk_of started.now.session.talk)) (p2 == 0)) ≡ ended self.new.core (A.contents self.new.application) result }
+        ensures sealer { self.new.sealer ≡ self.old.sealer }
     {
         if p2 == 0 {
             return self.complete(started);
@@ -33,7 +34,8 @@ impl<S: Sealer, A: Application> Parts<S, A> {
 
     // P1 + 0: a block in the session of a row. It wants a started session, and is joined, or repeats the last one, or is refused.
     pub fn block(&mut self, row: Row, p2: u8, body: Body<'_>) -> Status
-        ensures { carries S.seals A.acts (state_of self.old.core (A.contents self.old.application)) (blocks S.seals (core_of self.old.core) row p2 (shape_of body.entry) (slice_index_or (tables_of self.old.core.tables).connections row None)) ≡ ended self.new.core (A.contents self.new.application) result }
+        ensures step { carries S.seals A.acts (state_of self.old.core (A.contents self.old.application)) (blocks S.seals (core_of self.old.core) row p2 (shape_of body.entry) (slice_index_or (tables_of self.old.core.tables).connections row None)) ≡ ended self.new.core (A.contents self.new.application) result }
+        ensures sealer { self.new.sealer ≡ self.old.sealer }
     {
         let Some(mut started) = Started::at(&self.core, row) else {
             return Status::NotNow;

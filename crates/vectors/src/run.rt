@@ -62,7 +62,7 @@ fn block<C: BlockCipher + Drop, F: FnOnce(&C, &mut [u8])>(
     Ok(out)
 }
 
-// Whole blocks, after `work`.
+// Whole blocks, after `work`. Apart from `block`: with the test of the length as one more closure one text would be longer.
 fn blocks<C: BlockCipher + Drop, F: FnOnce(&C, &mut [u8])>(
     heap: Global,
     cipher: Result<C, Fault>,
@@ -85,6 +85,12 @@ fn check<I: Integrity + Drop>(heap: Global, mechanism: I, input: &[u8]) -> Outco
     let mut out = vec![in heap; 0u8; I::tag_len()]?;
     mechanism.write_check(input, out.as_mut_slice());
     Ok(out)
+}
+
+fn expansion(heap: Global, key: &[u8], seed: &[u8]) -> Outcome {
+    let mut area = [0; 64];
+    expand(key, &[seed], &mut area);
+    copied(heap, &area)
 }
 
 fn copied(heap: Global, bytes: &[u8]) -> Outcome {
@@ -110,7 +116,7 @@ pub fn run(heap: Global, algorithm: Algorithm, key: &[u8], input: &[u8]) -> Outc
         Algorithm::Cmac => check(heap, Cmac::new(aes(key)?), input),
         Algorithm::Sha => copied(heap, &digest_of(input)),
         Algorithm::Hmac => copied(heap, &mac(key, input)),
-        Algorithm::Expansion => copied(heap, &expand(key, &[input])),
+        Algorithm::Expansion => expansion(heap, key, input),
         Algorithm::Load => load(heap, input),
         Algorithm::Object => object(heap, input),
         Algorithm::Seal(suite) => sealed(heap, suite, key, input),

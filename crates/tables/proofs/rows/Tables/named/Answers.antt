@@ -25,8 +25,8 @@ returns-clause-found g c =
     let i = c.in_ok-index.index in
     let rows = c.rows-rows.result.now in
     let at : position (named_so f p) rows ≡ Some i = sym c.first_named.ensures ∙ c.in_ok-index.was in
-    let item : get_or rows i None ≡ Some c.in_ok-rows.field-0
-    = get_or_default rows i None c.index-rows-index.result (position-Some (named_so f p) rows i None at).0 ∙ sym c.index-rows-index.is ∙ c.in_ok-rows.was in
-    found_at f p (g.T.Named.held_in t) i c.in_ok-at.field-0 c.in_ok-rows.field-0
+    let item : get_or rows i None ≡ Some c.unwrap-2.result
+    = get_or_default rows i None c.index-rows-index.result (position-Some (named_so f p) rows i None at).0 ∙ sym c.index-rows-index.is ∙ c.unwrap-2.ensures in
+    found_at f p (g.T.Named.held_in t) i c.unwrap.result c.unwrap-2.result
     (ap (λ l. position (named_so f p) l) (sym c.rows-rows.ensures.is) ∙ at) (ap (λ l. get_or l i None) (sym c.rows-rows.ensures.is) ∙ item) (search rules)
     ∙ ap (λ l. found p l) (sym (g.met.T.Named.seen_rows t))

@@ -18,7 +18,7 @@ returns c =
     = c.retain-2.ensures (λ x. is_some (get_or left x.master None)) (λ x b k. search rules) in
     let seen : masters_of left ≡ map (off_key i) (masters_of t.masters) = masters_off i t.masters left off in
     record {
-      tables = rw c.index.ensures.is (tables_same _ _ _ _ _ _
+      tables = rw c.index-row.ensures.is (tables_same _ _ _ _ _ _
           (set_seen key_of t.keys i None None refl)
           seen
           (connections_on left (map (off_key i) (masters_of t.masters)) t.connections c.retain-2.new.rows seen on));

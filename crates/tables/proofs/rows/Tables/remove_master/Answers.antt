@@ -12,7 +12,7 @@ returns c =
     let i = c.args.row in
     let left : c.retain.new.rows ≡ map (retained (λ (x : Connection). not (eqb x.master i))) t.connections = c.retain.ensures (λ x. not (eqb x.master i)) (λ x b k. search rules) in
     record {
-      tables = rw c.index.ensures.is (tables_same (keys_of t.keys) (keys_of t.keys) _ _ _ _ refl
+      tables = rw c.index-row.ensures.is (tables_same (keys_of t.keys) (keys_of t.keys) _ _ _ _ refl
           (set_seen master_of t.masters i None None refl)
           (connections_off i t.connections c.retain.new.rows left));
       answers = left_kept (λ (x : Connection). not (eqb x.master i)) t.connections c.retain.new.rows left;
