@@ -47,7 +47,7 @@ fn put_zeros(out: &mut [u8], at: usize, count: usize)
     put(out, at, &[0u8; 16][0..count]);
 }
 
-// (d) Not a `sealing::Text`: that has two bytes of body at least, and a frame needs none, so the type would ask more of callers.
+// Not a `sealing::Text`: that has two bytes of body at least, and a frame needs none, so the type would ask more of callers.
 // Writes a text's frame at the start of `out`, leaves the rest, and answers the frame's length.
 pub fn write_frame<I: Integrity>(
     mechanism: &I,
