@@ -36,5 +36,5 @@ pub fn last(block: u64) -> u64
     EXCHANGES
         .iter()
         .rev()
-        .fold(block, |x, (shift, mask)| exchange(x, *shift, *mask))
+        .fold(block, |x, (by, mask)| exchange(x, *by, *mask))
 }
