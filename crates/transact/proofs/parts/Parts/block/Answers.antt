@@ -7,27 +7,39 @@ use Rattle.transact.proofs.parts.Parts.block.Goals as goal
 pub returns-in_default : goal.returns-in_default
 returns-in_default g c =
     let p = c.args.self.now in
-    record { step = block_unstarted g.S.Sealer.seals g.A.Application.acts p.core (g.A.Application.contents p.application) c.args.row (shape_of c.args.body)
-    c.args.p2 (c.in_default.ensures.none refl); sealer = refl }
+    record {
+      step = block_unstarted g.S.Sealer.seals g.A.Application.acts p.core (g.A.Application.contents p.application) c.args.row (shape_of c.args.body)
+          c.args.p2 (c.in_default.ensures.none refl);
+      sealer = refl;
+    }
 
 pub returns-in-Err : goal.returns-in-Err
 returns-in-Err g c =
     let p = c.args.self.now in
-    record { step = block_refused g.S.Sealer.seals g.A.Application.acts p.core (g.A.Application.contents p.application) c.args.row (shape_of c.args.body)
-    c.in-Some.started c.in-Some.ensures.some c.args.p2 c.in-Err.status c.in-Err.ensures.heard; sealer = refl }
+    record {
+      step = block_refused g.S.Sealer.seals g.A.Application.acts p.core (g.A.Application.contents p.application) c.args.row (shape_of c.args.body)
+          c.in-Some.started c.in-Some.ensures.some c.args.p2 c.in-Err.status c.in-Err.ensures.heard;
+      sealer = refl;
+    }
 
 pub returns-in-Joined : goal.returns-in-Joined
 returns-in-Joined g c =
     let p = c.args.self.now in
     let st = c.in-Some.started in
-    record { step = block_joined g.S.Sealer.seals g.A.Application.acts p.core (g.A.Application.contents p.application) c.args.row (shape_of c.args.body)
-    st c.in-Some.ensures.some c.handle.new.self c.args.p2
-    (ended c.join.new.self.core (g.A.Application.contents c.join.new.self.application) c.join.result) (ap Ok (sym c.in-Joined.is) ∙ c.in-Ok.ensures.heard) c.in-Ok.ensures.after c.join.ensures.step; sealer = c.join.ensures.sealer }
+    record {
+      step = block_joined g.S.Sealer.seals g.A.Application.acts p.core (g.A.Application.contents p.application) c.args.row (shape_of c.args.body)
+          st c.in-Some.ensures.some c.handle.new.self c.args.p2
+          (ended c.join.new.self.core (g.A.Application.contents c.join.new.self.application) c.join.result) (ap Ok (sym c.in-Joined.is) ∙ c.in-Ok.ensures.heard) c.in-Ok.ensures.after c.join.ensures.step;
+      sealer = c.join.ensures.sealer;
+    }
 
 pub returns-in_default-heard : goal.returns-in_default-heard
 returns-in_default-heard g c =
     let p = c.args.self.now in
     let k = g.A.Application.contents p.application in
-    record { step = block_said g.S.Sealer.seals g.A.Application.acts p.core k c.args.row (shape_of c.args.body)
-    c.in-Some.started c.in-Some.ensures.some c.args.p2 c.in-Ok.heard c.in-Ok.ensures.heard c.in_default-heard.not-Joined
-    ∙ ap (ended p.core k) (sym c.said.ensures); sealer = refl }
+    record {
+      step = block_said g.S.Sealer.seals g.A.Application.acts p.core k c.args.row (shape_of c.args.body)
+          c.in-Some.started c.in-Some.ensures.some c.args.p2 c.in-Ok.heard c.in-Ok.ensures.heard c.in_default-heard.not-Joined
+          ∙ ap (ended p.core k) (sym c.said.ensures);
+      sealer = refl;
+    }
