@@ -1,5 +1,5 @@
 -- What sealing and opening leave in bytes that are lent.
-use Rattle.std.specs.Prelude.{◌≡◌, ℕ, ◌+◌, ◌≤◌, List, ◌++◌, length, take, drop, Some, None, Option}
+use Rattle.std.specs.Prelude.{◌≡◌, ℕ, ◌+◌, ◌≤◌, List, ◌++◌, length, take, drop, cond, Some, None, Option, nat_le}
 use Rattle.sealing.specs.declared.suite.Suite.{Suite}
 use Rattle.sealing.specs.declared.sealer.Opened.{Opened}
 use Rattle.sealing.specs.declared.text.Text as lent
@@ -21,6 +21,10 @@ pub record Gives (t : Text) (before after : List ℕ) (r : Opened) : Type 0 wher
   pub len : r.len ≡ length t.body
   pub inside : r.at + r.len ≤ length before
   pub body : take r.len (drop r.at after) ≡ t.body
+
+-- The body out of the string that was opened, where its places lie in the string.
+abbrev pub body_in : Opened → List ℕ → Option (List ℕ)
+body_in o string = cond (nat_le (o.at + o.len) (length string)) (Some (take o.len (drop o.at string))) None
 
 -- A string that opens gives its text; where it is refused, it is as it was.
 abbrev pub OpensTo : Option Text → List ℕ → List ℕ → Option Opened → Type 0

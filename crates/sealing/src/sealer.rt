@@ -1,7 +1,8 @@
 // The trait of everything that seals.
 ghost use Rattle.std.specs.Prelude.{◌≡◌, ◌≤◌, length};
+ghost use Rattle.std.specs.Option.{option_map};
 ghost use Rattle.sealing.specs.Sealing.{Sealing, Faithful, Apart};
-ghost use Rattle.sealing.specs.Lent.{Seals, Opens, as_text};
+ghost use Rattle.sealing.specs.Lent.{Seals, Opens, as_text, body_in};
 
 use crate::suite::{Direction, Suite};
 use crate::text::Text;
@@ -14,6 +15,15 @@ pub struct Opened {
     // Not the body itself, lent out of the string: what the string ends as is then no `string.new`, but a clause over names.
     pub at: usize,
     pub len: usize,
+}
+
+impl Opened {
+    // The body, out of the string that was opened; none where its places do not lie in the string.
+    pub fn body(self, string: &[u8]) -> Option<&[u8]>
+        ensures { option_map (λ b. b.now) result ≡ body_in self string.now }
+    {
+        string.get(self.at..)?.get(..self.len)
+    }
 }
 
 // Seals texts, and opens what is a text's sealing.
