@@ -3,6 +3,7 @@ ghost use Rattle.std.specs.Prelude.{◌≡◌, ◌<◌, length};
 ghost use Rattle.objects.specs.Joined.{incomplete, header_of, filled, object, seen};
 
 use crate::tag::OBJECT;
+use std::cmp::Ordering;
 
 // The length is in the next byte.
 const LONG_FORM: u8 = 0x81;
@@ -48,13 +49,11 @@ impl Header {
     {
         let head = usize::from(self.head);
         let whole = head + usize::from(self.size);
-        if bytes.len() < whole {
-            return Err(Unread::Incomplete);
+        match bytes.len().cmp(&whole) {
+            Ordering::Less => Err(Unread::Incomplete),
+            Ordering::Greater => Err(Unread::Bad),
+            Ordering::Equal => Ok(&bytes[head..]),
         }
-        if bytes.len() > whole {
-            return Err(Unread::Bad);
-        }
-        Ok(&bytes[head..])
     }
 }
 

@@ -33,11 +33,9 @@ impl<'a> Reader<'a> {
         ensures stays { IfNone result (unread self.new ≡ unread self.old) }
         ensures size { IfSome result (λ v. (field.least ≤ length v.now) × (length v.now ≤ field.most)) }
     {
-        let [tag, size, rest @ ..] = self.rest else {
-            return None;
-        };
-        let size = usize::from(*size);
-        if *tag != field.tag || size < field.least || size > field.most {
+        let (&[tag, size], rest) = self.rest.split_first_chunk::<2>()?;
+        let size = usize::from(size);
+        if tag != field.tag || !(field.least..=field.most).contains(&size) {
             return None;
         }
         let (value, rest) = rest.split_at_checked(size)?;
@@ -56,7 +54,7 @@ impl<'a> Reader<'a> {
             least: N,
             most: N,
         })?;
-        value.first_chunk()
+        value.as_array()
     }
 
     /// Says that nothing is left to be read.

@@ -101,10 +101,7 @@ impl<'a> StartRequest<'a> {
         let &[container] = reader.take_array::<1>(tag::CONTAINER)?;
         let mac = reader.take_array(tag::START_MAC)?;
         reader.end()?;
-        if container < LEAST_CONTAINER {
-            return None;
-        }
-        Some(StartRequest {
+        (container >= LEAST_CONTAINER).then_some(StartRequest {
             connection,
             container,
             mac,
