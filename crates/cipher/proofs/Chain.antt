@@ -19,20 +19,17 @@ none : (n : ℕ) → (n ≡ 8) ⊎ (n ≡ 16) → take n zeros ≡ replicate n 0
 none n (inl e) = let P : ℕ → Type 0 = λ m. take m zeros ≡ replicate m 0 in subst P (sym e) refl
 none n (inr e) = let P : ℕ → Type 0 = λ m. take m zeros ≡ replicate m 0 in subst P (sym e) refl
 
--- The whole chain, from the place `from` on.
-abbrev pub whole : ℕ → List ℕ → ℕ → (F G : List ℕ → List ℕ → List ℕ) → List ℕ
-whole n buf from F G = take from buf ++ chained n F G (length (drop from buf) / n) (replicate n 0) (drop from buf)
+-- The whole chain.
+abbrev pub whole : ℕ → List ℕ → (F G : List ℕ → List ℕ → List ℕ) → List ℕ
+whole n text F G = chained n F G (length text / n) (replicate n 0) text
 
-pub start : (n : ℕ) (P : (F G : List ℕ → List ℕ → List ℕ) → Type 0) (buf : List ℕ) (from : ℕ) → (n ≡ 8) ⊎ (n ≡ 16) → from ≤ length buf → (length buf - from) % n ≡ 0
-    → Going n P (whole n buf from) buf zeros from
-start n P buf from s le e = record {
-  blocks = length (drop from buf) / n;
-  fills =
-      let d : length (drop from buf) ≡ length buf - from = length-drop from buf in
-      let m : length (drop from buf) % n ≡ 0 = ap (λ k. k % n) d ∙ e in
-      omega (arith, div-add-mod' (length (drop from buf)) n);
+pub start : (n : ℕ) (P : (F G : List ℕ → List ℕ → List ℕ) → Type 0) (text : List ℕ) → (n ≡ 8) ⊎ (n ≡ 16) → length text % n ≡ 0
+    → Going n P (whole n text) text zeros 0
+start n P text s e = record {
+  blocks = length text / n;
+  fills = omega (arith, div-add-mod' (length text) n);
   long = refl;
-  gives = λ F G p. ap (λ b. take from buf ++ chained n F G (length (drop from buf) / n) b (drop from buf)) (none n s);
+  gives = λ F G p. ap (λ b. chained n F G (length text / n) b text) (none n s);
 }
 
 -- k is n, as the code writes it

@@ -1,6 +1,7 @@
 -- A chain that is run forth and then back gives what it was run on, and so does one run back and then forth.
 use Rattle.std.proofs.Common.{◌≡◌, ℕ, zero, suc, ◌-◌, ◌*◌, ◌/◌, ◌%◌, ◌≤◌, List, ◌++◌, length, take, drop, replicate, refl, ap, ◌∙◌, suc-mul, div-add-mod', arith, length-append, length-drop, take-append-drop}
-use Rattle.std.proofs.lemmas.List.{take_at, drop_at, length-replicate, length-take-le}
+use borrow.Rule.Slice.PartMut.{put_mid}
+use Rattle.std.proofs.lemmas.List.{take_at, take_all, drop_at, drop_all, append-nil, length-replicate, length-take-le}
 use Rattle.byte_lists.specs.Bytes.{xors, Bytes, Block}
 use Rattle.byte_lists.proofs.Facts.{xors_undone, length_xors, bytes_xors, bytes_append, bytes_drop, bytes_take, bytes_zeros}
 use Rattle.cipher.specs.Permutes.{Permutes}
@@ -86,16 +87,24 @@ module _ (n : ℕ) (E D : List ℕ → List ℕ) (p : Permutes n E D) where
       let u = redo (length xs / n) (replicate n 0) xs zeros (whole xs z) h in
       record { long = u.0; bytes = u.1; back = ap (λ y. chained n (forth E) (forth E) (y / n) (replicate n 0) (uncbc n D xs)) u.0 ∙ u.2 }
 
-  -- In a buffer, from the byte `from` on.
+  -- In a buffer, from the byte `from` on, where ys is written.
   module _ (from : ℕ) (xs ys : List ℕ) (le : from ≤ length xs) (z : (length xs - from) % n ≡ 0) (h : Bytes xs) where
     blocks : length (drop from xs) % n ≡ 0
     blocks = ap (λ k. k % n) (length-drop from xs) ∙ z
 
-    behind : (zs : List ℕ) → ys ≡ take from xs ++ zs → drop from ys ≡ zs
-    behind zs e = ap (drop from) e ∙ drop_at (take from xs) zs from (length-take-le from xs le)
+    -- k is n, as the code writes it
+    behind : (k : ℕ) (f : ℕ → List ℕ → List ℕ) → k ≡ n → ys ≡ f k (take (length xs - from) (drop from xs)) → drop from (put_mid from (length xs - from) xs ys) ≡ f n (drop from xs)
+    behind k f ek e =
+        let rest : length (drop from xs) ≤ length xs - from = omega (arith, length-drop from xs) in
+        drop_at (take from xs) (ys ++ drop (length xs - from) (drop from xs)) from (length-take-le from xs le)
+        ∙ ap (λ y. ys ++ y) (drop_all (length xs - from) (drop from xs) rest)
+        ∙ append-nil ys
+        ∙ e
+        ∙ ap (f k) (take_all (length xs - from) (drop from xs) rest)
+        ∙ ap (λ m. f m (drop from xs)) ek
 
-    pub encrypted_undone : ys ≡ take from xs ++ cbc n E (drop from xs) → uncbc n D (drop from ys) ≡ drop from xs
-    encrypted_undone e = ap (uncbc n D) (behind (cbc n E (drop from xs)) e) ∙ (cbc_undone (drop from xs) blocks (bytes_drop from xs h)).back
+    pub encrypted_undone : (k : ℕ) → k ≡ n → ys ≡ cbc k E (take (length xs - from) (drop from xs)) → uncbc n D (drop from (put_mid from (length xs - from) xs ys)) ≡ drop from xs
+    encrypted_undone k ek e = ap (uncbc n D) (behind k (λ m t. cbc m E t) ek e) ∙ (cbc_undone (drop from xs) blocks (bytes_drop from xs h)).back
 
-    pub decrypted_undone : ys ≡ take from xs ++ uncbc n D (drop from xs) → cbc n E (drop from ys) ≡ drop from xs
-    decrypted_undone e = ap (cbc n E) (behind (uncbc n D (drop from xs)) e) ∙ (uncbc_undone (drop from xs) blocks (bytes_drop from xs h)).back
+    pub decrypted_undone : (k : ℕ) → k ≡ n → ys ≡ uncbc k D (take (length xs - from) (drop from xs)) → cbc n E (drop from (put_mid from (length xs - from) xs ys)) ≡ drop from xs
+    decrypted_undone k ek e = ap (cbc n E) (behind k (λ m t. uncbc m D t) ek e) ∙ (uncbc_undone (drop from xs) blocks (bytes_drop from xs h)).back

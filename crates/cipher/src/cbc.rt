@@ -6,21 +6,21 @@ ghost use Rattle.cipher.specs.Links.{Links};
 use crate::block::BlockCipher;
 use byte_lists::join;
 
-// Runs `link` on each block of n bytes from the byte `from` to the buffer's end. It is given the block that stands before,
-// at first zeros, and the block itself, and leaves in the first what stands before the next one.
-fn chain<F: Fn(&mut [u8], &mut [u8])>(buf: &mut [u8], from: usize, n: usize, link: F)
+// Runs `link` on each block of n bytes of the text. It is given the block that stands before, at first zeros, and the block
+// itself, and leaves in the first what stands before the next one.
+fn chain<F: Fn(&mut [u8], &mut [u8])>(text: &mut [u8], n: usize, link: F)
     requires sizes { (n ≡ 8) ⊎ (n ≡ 16) }
-    requires whole { (from ≤ length buf.old) × ((length buf.old - from) % n ≡ 0) }
+    requires whole { length text.old % n ≡ 0 }
     requires takes { (before block : _) → length before.now ≡ n → length block.now ≡ n → F.pre link before block }
     ensures { (out next : List ℕ → List ℕ → List ℕ)
         → Links (F.post link) out next
-        → buf.new ≡ take from buf.old ++ chained n out next (length (drop from buf.old) / n) (replicate n 0) (drop from buf.old) }
+        → text.new ≡ chained n out next (length text.old / n) (replicate n 0) text.old }
 {
     // Of fixed size, as the card has no heap; a block has 8 bytes or 16.
     let mut before = [0u8; 16];
-    // Over `chunks_exact_mut` no proof knows what the buffer is after the loop.
-    for at in (from..buf.len()).step_by(n) {
-        link(&mut before[..n], &mut buf[at..at + n]);
+    // Over `chunks_exact_mut` no proof knows what the text is after the loop.
+    for at in (0..text.len()).step_by(n) {
+        link(&mut before[..n], &mut text[at..at + n]);
     }
 }
 
@@ -42,6 +42,7 @@ fn unlink<C: BlockCipher>(cipher: &C, before: &mut [u8], block: &mut [u8])
     ensures next { before.new ≡ itself before.old block.old }
 {
     let n = C::block_len();
+    // Of fixed size too, of which n bytes count.
     let mut kept = [0u8; 16];
     kept[..n].copy_from_slice(block);
     cipher.decrypt(block);
@@ -49,15 +50,15 @@ fn unlink<C: BlockCipher>(cipher: &C, before: &mut [u8], block: &mut [u8])
     before.copy_from_slice(&kept[..n]);
 }
 
-// Encrypts in place from the byte `from` to the end, in whole blocks. Decrypting gives back what was there.
+// Encrypts in place from the byte `from` to the end, in whole blocks. Decrypting gives back what was there. What stands before,
+// as a header in the clear, is lent with it, so both say by `from` where the blocks begin.
 pub fn cbc_encrypt<C: BlockCipher>(cipher: &C, buf: &mut [u8], from: usize)
     requires { (from ≤ length buf.old) × ((length buf.old - from) % C.size ≡ 0) }
     ensures is { buf.new ≡ take from buf.old ++ cbc C.size (C.enc cipher.now) (drop from buf.old) }
     ensures undone { uncbc C.size (C.dec cipher.now) (drop from buf.new) ≡ drop from buf.old }
 {
     chain(
-        buf,
-        from,
+        &mut buf[from..],
         C::block_len(),
         |before, block| link(cipher, before, block),
     );
@@ -70,8 +71,7 @@ pub fn cbc_decrypt<C: BlockCipher>(cipher: &C, buf: &mut [u8], from: usize)
     ensures undone { cbc C.size (C.enc cipher.now) (drop from buf.new) ≡ drop from buf.old }
 {
     chain(
-        buf,
-        from,
+        &mut buf[from..],
         C::block_len(),
         |before, block| unlink(cipher, before, block),
     );

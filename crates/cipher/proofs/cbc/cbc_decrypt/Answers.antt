@@ -1,6 +1,7 @@
 use Rattle.std.proofs.Common.{rules}
 use Rattle.byte_lists.specs.Bytes.{Bytes}
 use Rattle.byte_lists.proofs.Facts.{bytes_of}
+use Rattle.cipher.specs.Cbc.{back, itself}
 use Rattle.cipher.proofs.Undo.{decrypted_undone}
 use Rattle.cipher.proofs.cbc.cbc_decrypt.Goals as goal
 
@@ -8,4 +9,5 @@ pub returns-clause-undone : goal.returns-clause-undone
 returns-clause-undone g c =
     let laws = g.met.C.BlockCipher.permutes c.args.cipher.now in
     let bytes : Bytes c.args.buf.now = bytes_of _ (λ i. search rules) in
-    decrypted_undone _ _ _ laws _ _ _ c.requires.0 c.requires.1 bytes (search rules)
+    let text = c.chain.ensures (back (g.C.BlockCipher.dec c.args.cipher.now)) itself (λ a b x y p. search rules) in
+    decrypted_undone _ _ _ laws c.args.from c.args.buf.now c.chain.new.text c.requires.0 c.requires.1 bytes _ c.block_len.ensures text
