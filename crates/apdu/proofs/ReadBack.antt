@@ -1,11 +1,11 @@
 -- Reading undoes writing, and reads nothing else.
-use Rattle.std.proofs.Common.{◌≡◌, ℕ, ◌+◌, ◌<◌, ◌≤◌, Bool, true, false, cond, eqb, ltb, List, [], ◌∷◌, ◌++◌, length, get_or, take, drop, IfSome, Some, None, Option, sym, refl, ap, ◌∙◌, subst, arith}
+use Rattle.std.proofs.Common.{◌≡◌, ℕ, ◌+◌, ◌<◌, ◌≤◌, Bool, true, false, cond, eqb, ltb, List, [], ◌∷◌, ◌++◌, length, get_or, take, drop, Some, None, Option, sym, refl, ap, ◌∙◌, subst, arith, w8, Fits}
 use Rattle.std.proofs.lemmas.List.{take_all, take_at, take-append-drop, drop_more, drop_all, drop-drop, get_or_at, length-append, length-drop, length-take-le, nil_from_length}
 use Rattle.std.proofs.lemmas.Bool.{eqb-true, eqb-false, ltb-false, eq-eqb, ne_eqb, le-ltb, cond-true, cond-false}
 use Rattle.std.proofs.lemmas.Bool.Decides.{nat_tests}
 use Rattle.std.specs.Option.{option_map}
 use Rattle.byte_lists.specs.Bytes.{Bytes}
-use Rattle.byte_lists.proofs.Facts.{bytes_drop}
+use Rattle.byte_lists.proofs.Facts.{bytes_of, bytes_drop}
 use Rattle.apdu.specs.Command.{Shape, bare, le, alone, both, Command, expected, shape_in, headed, command_in}
 use Rattle.apdu.specs.Writing.{le_byte, shape_bytes, command_bytes, Proper, Reads}
 
@@ -157,10 +157,12 @@ reads bs h = record {
   whole = λ c p e. subst (λ (xs : List ℕ). command_in xs ≡ Some c) e (read_whole c p);
 }
 
--- The same of what a function read, which knows that they are bytes where it read something.
-pub reads_by : {X : Type 0} (f : X → Command) (bs : List ℕ) (o : Option X) → option_map f o ≡ command_in bs → IfSome o (λ _. Bytes bs) → Reads bs (option_map f o)
-reads_by f bs None e h = record {
+-- The same of what a function read, where it read something, and where it read nothing.
+pub reads_some : (bs : List ℕ) (c : Command) → Some c ≡ command_in bs → ((i : ℕ) → Fits w8 (get_or bs i 0)) → Reads bs (Some c)
+reads_some bs c e h = subst (λ (o : Option Command). Reads bs o) (sym e) (reads bs (bytes_of bs h))
+
+pub reads_none : (bs : List ℕ) → None ≡ command_in bs → Reads bs None
+reads_none bs e = record {
   sound = λ c q. absurd (none_some c q);
   whole = λ c p q. e ∙ subst (λ (xs : List ℕ). command_in xs ≡ Some c) q (read_whole c p);
 }
-reads_by f bs (Some x) e h = subst (λ (o : Option Command). Reads bs o) (sym e) (reads bs h)

@@ -17,7 +17,7 @@ pub struct Le {
     pub ghost few: { wanted ≤ 256 },
 }
 
-// What stands behind the header of a command.
+// What stands behind the header of a command. Four cases and not two Options: a command is judged by which case it is.
 #[derive(Clone, Copy)]
 pub enum Body<'a> {
     // Nothing.

@@ -3,19 +3,19 @@ ghost use Rattle.apdu.specs.Kinds.{IsP1, Says};
 
 use crate::status::Status;
 
-// What a command of MANAGE SECURE CHANNEL is about.
+// What a command of MANAGE SECURE CHANNEL is about, each with its P1.
 #[derive(Clone, Copy, PartialEq, Eq, Debug)]
 pub enum Kind {
-    // P1 00: what the card has, and how many failures it counted.
-    Discovery,
-    // P1 01: a master from a key.
-    Master,
-    // P1 02: a connection from a master.
-    Connection,
-    // P1 03: the start of a connection's session.
-    Start,
-    // P1 04: the end of a master or of a connection.
-    Terminate,
+    // What the card has, and how many failures it counted.
+    Discovery = 0x00,
+    // A master from a key.
+    Master = 0x01,
+    // A connection from a master.
+    Connection = 0x02,
+    // The start of a connection's session.
+    Start = 0x03,
+    // The end of a master or of a connection.
+    Terminate = 0x04,
 }
 
 // The kind's P1.
@@ -23,13 +23,7 @@ impl From<Kind> for u8 {
     ghost from_gives = { IsP1 };
 
     fn from(kind: Kind) -> u8 {
-        match kind {
-            Kind::Discovery => 0x00,
-            Kind::Master => 0x01,
-            Kind::Connection => 0x02,
-            Kind::Start => 0x03,
-            Kind::Terminate => 0x04,
-        }
+        kind as u8
     }
 }
 

@@ -49,29 +49,20 @@ impl<'a> Body<'a> {
 }
 
 impl<'a> Apdu<'a> {
-    // Reads the header, and what stands behind it.
-    fn parts(bytes: &'a [u8]) -> Option<Apdu<'a>>
-        ensures command { option_map command_of result ≡ command_in bytes.now }
-        ensures bytes { OnSome result (Bytes bytes.now) }
-    {
-        let [cla, ins, p1, p2, behind @ ..] = bytes else {
-            return None;
-        };
-        Some(Apdu {
-            cla: *cla,
-            ins: *ins,
-            p1: *p1,
-            p2: *p2,
-            body: Body::read(behind)?,
-        })
-    }
-
     // Reads a command from its bytes; `None` exactly where they are malformed.
     // An Option and no TryFrom: every caller answers one status word to all that is malformed.
+    #[tactic(auto, using(crate::proofs::ReadBack::reads_none))]
     pub fn read(bytes: &'a [u8]) -> Option<Apdu<'a>>
         ensures command { option_map command_of result ≡ command_in bytes.now }
         ensures exact { Reads bytes.now (option_map command_of result) }
     {
-        Apdu::parts(bytes)
+        let (&[cla, ins, p1, p2], behind) = bytes.split_first_chunk::<4>()?;
+        Some(Apdu {
+            cla,
+            ins,
+            p1,
+            p2,
+            body: Body::read(behind)?,
+        })
     }
 }

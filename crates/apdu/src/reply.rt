@@ -1,4 +1,5 @@
-// Writing a reply: data, then the status word, at the start of a lent buffer.
+// Writing a reply: data, then the status word, at the start of a lent buffer. The length is answered beside it: the card has
+// no heap, and the buffer is its host's.
 ghost use Rattle.std.specs.Prelude.{◌≡◌, ◌+◌, ◌≤◌, [], length};
 ghost use Rattle.apdu.specs.Reply.{fronted, reply};
 

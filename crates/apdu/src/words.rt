@@ -1,4 +1,5 @@
-// The bytes of a status word, and what it says in words: three tables of constants, a line for each word.
+// The bytes of a status word, and what it says in words: three tables of constants, a line for each word. The bytes are not
+// looked up the other way round: that takes a list of all words, and a look beside it at Taken, which is no constant.
 ghost use Rattle.std.specs.Prelude.{◌≡◌, Some, MatchResult, ◌≢◌};
 ghost use Rattle.apdu.specs.StatusWords.{status_bytes, status_words, no_status_words};
 ghost use Rattle.apdu.specs.declared.status.Status.{Status as StatusOf};

@@ -13,8 +13,8 @@ pub trait Application {
 
     ghost acts: { Acts Contents };
 
-    // Runs a command of any bytes and any length: writes the reply at the start of the buffer, leaves the rest, and
-    // gives the reply's length.
+    // Runs a command of any bytes and any length: writes the reply at the start of the buffer, which the card lends since
+    // there is no heap, leaves the rest, and gives the reply's length.
     fn run(&mut self, command: &[u8], buffer: &mut [u8]) -> usize
         requires { 258 ≤ length buffer.old }
         ensures len { result ≡ length (acts.reply (contents self.old) command.now) }

@@ -1,9 +1,7 @@
+use Rattle.std.proofs.Common.{rules}
 use Rattle.apdu.specs.View.{command_of}
-use Rattle.apdu.proofs.ReadBack.{reads_by}
+use Rattle.apdu.proofs.ReadBack.{reads_some}
 use Rattle.apdu.proofs.command.Apdu.read.Goals as goal
 
-pub returns : goal.returns
-returns c = record {
-  command = c.parts.ensures.command;
-  exact = reads_by command_of c.args.bytes.now c.parts.result c.parts.ensures.command c.parts.ensures.bytes;
-}
+pub returns-clause-exact : goal.returns-clause-exact
+returns-clause-exact c = reads_some c.args.bytes.now (command_of _) (search rules) c.type_inv.bytes
