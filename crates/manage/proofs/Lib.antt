@@ -2,4 +2,3 @@ pub mod Stays
 pub mod Gives
 pub mod Said
 pub mod Decided
-pub mod SameKinds

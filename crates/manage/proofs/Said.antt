@@ -1,20 +1,22 @@
 -- Moves that are a status word alone, and moves that are another by a check's outcome.
-use Rattle.std.proofs.Common.{◌≡◌, ℕ, List, [], ◌++◌, Some, None, sym, refl, ap, ◌∙◌}
+use Rattle.std.proofs.Common.{◌≡◌, ℕ, List, [], Some, None, sym, refl, ap, ◌∙◌}
 use Rattle.apdu.specs.Command.{Shape, bare, le, alone, both}
 use Rattle.apdu.specs.Reply.{reply}
 use Rattle.apdu.specs.declared.status.Status.{Status}
-use Rattle.apdu.specs.declared.status.Status.TheVariants.{WrongLength}
-use Rattle.objects.specs.Joined.{object}
+use Rattle.apdu.specs.declared.status.Status.TheVariants.{WrongLength, NotNow}
 use Rattle.law.specs.Request as law
 use Rattle.law.specs.Step as law_step
 use Rattle.law.specs.Associations.{Hashing}
 use Rattle.law.specs.Calls.{replied}
-use Rattle.law.specs.Step.{Move, does, says, given, gives_reply, joins, joined}
+use Rattle.law.specs.Step.{Move, does, says, given, gives_reply, joins, joined, continues}
 use Rattle.law.proofs.Rows.{no_some, some_same}
 use Rattle.manage.specs.declared.card_core.Core.{Core}
 use Rattle.manage.specs.declared.told.Told.{Told}
 use Rattle.manage.specs.Told.{bytes_of}
-use Rattle.manage.specs.View.{core_of, Said, Replied}
+use Rattle.manage.specs.View.{core_of, pending_of, Said, Replied}
+use Rattle.manage.specs.declared.pending.Gathered.{Gathered}
+use Rattle.manage.specs.declared.pending.Pending.{Pending}
+use Rattle.manage.specs.declared.pending.Pending.TheVariants as pending
 use Rattle.apdu.specs.Alone.{le_alone, data_alone}
 use Rattle.manage.proofs.Stays.{stays}
 
@@ -25,9 +27,6 @@ tells m c s t e w = record { move = e ∙ ap (λ (zs : List ℕ). does (core_of 
 -- One move is another.
 pub is_same : (m m' : Move) (before after : Core) (t : Told) → m ≡ m' → Replied m' before after t → Replied m before after t
 is_same m m' before after t e d = record { move = e ∙ d.move; answers = d.answers }
-
-pub said_same : (m m' : Move) (before after : Core) (s : Status) → m ≡ m' → Said m' before after s → Said m before after s
-said_same m m' before after s e d = record { move = e ∙ d.move; answers = d.answers }
 
 module _ (c : law_step.Core) (k : law.Kind) (z : List ℕ) (at : ℕ) where
   pub no_le : (s : Shape) → None ≡ le_alone s → gives_reply c k z at s ≡ says c WrongLength
@@ -49,11 +48,12 @@ module _ (𝓗 : Hashing) (c : law_step.Core) (random : List ℕ) (k : law.Kind)
   no_data (alone d) e = no_some e
   no_data (both d n) e = refl
 
-  pub with_data : (s : Shape) (d z : List ℕ) → Some d ≡ data_alone s → z ≡ j ++ d → joins 𝓗 c random k j s ≡ joined 𝓗 c random k z (object z)
-  with_data bare d z e w = no_some (sym e)
-  with_data (le n) d z e w = no_some (sym e)
-  with_data (alone x) d z e w = ap (λ (y : List ℕ). joined 𝓗 c random k y (object y)) (ap (λ (y : List ℕ). j ++ y) (some_same (sym e)) ∙ sym w)
-  with_data (both x n) d z e w = no_some (sym e)
+-- Where no object is gathered, none goes on.
+pub no_object : (𝓗 : Hashing) (c : law_step.Core) (random : List ℕ) (k : law.Kind) (s : Shape) (p : Pending) → ((g : Gathered) → p ≡ pending.Object g → ⊥)
+    → continues 𝓗 c random k s (pending_of p) ≡ says c NotNow
+no_object 𝓗 c random k s pending.Nothing n = refl
+no_object 𝓗 c random k s (pending.Object g) n = absurd (n g refl)
+no_object 𝓗 c random k s (pending.Reply w) n = refl
 
 -- Nothing changes.
 pub still : (m : Move) (c : Core) (s : Status) → m ≡ says (core_of c) s → Said m c c s

@@ -21,6 +21,13 @@ use objects::join::{Unread, read_object};
 // The most bytes of blocks that are joined: what a buffer holds, and one block more.
 const JOINED: usize = ROOM + 255;
 
+// What a command is lent: 32 random bytes, and 64 bytes to work in.
+#[derive(Drop)]
+struct Lent<'a> {
+    random: &'a [u8; 32],
+    area: &'a mut [u8; 64],
+}
+
 impl Core {
     // A refusal is counted where it is for a wrong MAC. Nothing is pending after it.
     fn refuse(&mut self, status: Status) -> Status
@@ -55,24 +62,18 @@ impl Core {
         }
     }
     // A whole object is carried out.
-    fn carry_out(
-        &mut self,
-        kind: Kind,
-        value: &[u8],
-        random: &[u8; 32],
-        area: &mut [u8; 64],
-    ) -> Status
-        ensures { Said (decides keyed (core_of self.old) random.now (kind_of kind) (asked (kind_of kind) value.now) (verdict keyed (tables_of self.old.tables) random.now (asked (kind_of kind) value.now))) self.old self.new result }
+    fn carry_out(&mut self, kind: Kind, value: &[u8], lent: Lent<'_>) -> Status
+        ensures { Said (decides keyed (core_of self.old) lent.entry.random.now (kind_of kind) (asked (kind_of kind) value.now) (verdict keyed (tables_of self.old.tables) lent.entry.random.now (asked (kind_of kind) value.now))) self.old self.new result }
     {
-        match carry_out(&mut self.tables, kind, value, random, area) {
+        match carry_out(&mut self.tables, kind, value, lent.random, lent.area) {
             Ok(reply) => self.grant(kind, reply),
             Err(status) => self.refuse(status),
         }
     }
 
     // Joined blocks: no object, the beginning of one, or a whole one.
-    fn judge(&mut self, kind: Kind, bytes: &[u8], random: &[u8; 32], area: &mut [u8; 64]) -> Status
-        ensures { Said (joined keyed (core_of self.old) random.now (kind_of kind) bytes.now (object bytes.now)) self.old self.new result }
+    fn judge(&mut self, kind: Kind, bytes: &[u8], lent: Lent<'_>) -> Status
+        ensures { Said (joined keyed (core_of self.old) lent.entry.random.now (kind_of kind) bytes.now (object bytes.now)) self.old self.new result }
     {
         match read_object(bytes) {
             Err(Unread::Bad) => self.refuse(Status::WrongData),
@@ -83,30 +84,23 @@ impl Core {
                 });
                 Status::MoreToSend
             }
-            Ok(value) => self.carry_out(kind, value, random, area),
+            Ok(value) => self.carry_out(kind, value, lent),
         }
     }
     // A command block: data alone joins what was gathered, and drops whatever else was pending.
-    fn join(
-        &mut self,
-        kind: Kind,
-        gathered: &[u8],
-        body: Body<'_>,
-        random: &[u8; 32],
-        area: &mut [u8; 64],
-    ) -> Status
+    fn join(&mut self, kind: Kind, gathered: &[u8], body: Body<'_>, lent: Lent<'_>) -> Status
         requires { length gathered.now ≤ 288 }
-        ensures { Said (joins keyed (core_of self.old) random.now (kind_of kind) gathered.now (shape_of body.entry)) self.old self.new result }
+        ensures { Said (joins keyed (core_of self.old) lent.entry.random.now (kind_of kind) gathered.now (shape_of body.entry)) self.old self.new result }
     {
         let Some(part) = body.data_alone() else {
             return Status::WrongLength;
         };
         let mut joined: Store<JOINED> = Store::from_slice(gathered);
         joined.append(part.bytes).unwrap();
-        self.judge(kind, joined.as_slice(), random, area)
+        self.judge(kind, joined.as_slice(), lent)
     }
 
-    // P2 80: a first command block.
+    // P2 80: a first command block. Its area is a slice, here and in `resume`: a host lends one of any length from 64 on.
     pub fn begin(
         &mut self,
         kind: Kind,
@@ -118,24 +112,17 @@ impl Core {
         ensures { Said (joins keyed (core_of self.old) random.now (kind_of kind) [] (shape_of body.entry)) self.old self.new result }
     {
         let area = area.first_chunk_mut::<64>().unwrap();
-        self.join(kind, &[], body, random, area)
+        self.join(kind, &[], body, Lent { random, area })
     }
 
     // P1 is to be that of the blocks that were gathered.
-    fn join_as(
-        &mut self,
-        kind: Kind,
-        gathered: Gathered,
-        body: Body<'_>,
-        random: &[u8; 32],
-        area: &mut [u8; 64],
-    ) -> Status
-        ensures { Said (continues_as keyed (core_of self.old) random.now (kind_of kind) (held gathered.bytes) (shape_of body.entry) (same_kind (kind_of gathered.kind) (kind_of kind))) self.old self.new result }
+    fn join_as(&mut self, kind: Kind, gathered: Gathered, body: Body<'_>, lent: Lent<'_>) -> Status
+        ensures { Said (continues_as keyed (core_of self.old) lent.entry.random.now (kind_of kind) (held gathered.bytes) (shape_of body.entry) (same_kind (kind_of gathered.kind) (kind_of kind))) self.old self.new result }
     {
         if gathered.kind != kind {
             return Status::WrongParameters;
         }
-        self.join(kind, gathered.bytes.as_slice(), body, random, area)
+        self.join(kind, gathered.bytes.as_slice(), body, lent)
     }
 
     // P2 00: a next command block, which joins what was gathered.
@@ -149,11 +136,10 @@ impl Core {
         requires area { 64 ≤ length area.old }
         ensures { Said (continues keyed (core_of self.old) random.now (kind_of kind) (shape_of body.entry) (pending_of self.old.pending)) self.old self.new result }
     {
+        let Pending::Object(gathered) = self.pending else {
+            return Status::NotNow;
+        };
         let area = area.first_chunk_mut::<64>().unwrap();
-        match self.pending {
-            Pending::Object(gathered) => self.join_as(kind, gathered, body, random, area),
-            Pending::Nothing => Status::NotNow,
-            Pending::Reply(_) => Status::NotNow,
-        }
+        self.join_as(kind, gathered, body, Lent { random, area })
     }
 }

@@ -60,33 +60,31 @@ impl Core {
         if waiting.kind != kind {
             return self.say(Status::WrongParameters);
         }
-        self.give(Waiting { kind, ..waiting }, body)
+        self.give(waiting, body)
     }
 
     // P2 A0: the reply that waits, from its first byte.
     pub fn answer(&mut self, kind: Kind, body: Body<'_>) -> Told
         ensures { Replied (answers (core_of self.old) (kind_of kind) (shape_of body.entry) (pending_of self.old.pending)) self.old self.new result }
     {
-        match self.pending {
-            Pending::Reply(waiting) => {
-                let whole = Waiting {
-                    given: 0,
-                    ..waiting
-                };
-                self.give_as(kind, whole, body)
-            }
-            Pending::Nothing | Pending::Object(_) => self.say(Status::NotNow),
-        }
+        let Pending::Reply(waiting) = self.pending else {
+            return self.say(Status::NotNow);
+        };
+        let whole = Waiting {
+            given: 0,
+            ..waiting
+        };
+        self.give_as(kind, whole, body)
     }
 
     // P2 20: the reply that waits, from where the last block ended.
     pub fn go_on(&mut self, kind: Kind, body: Body<'_>) -> Told
         ensures { Replied (goes_on (core_of self.old) (kind_of kind) (shape_of body.entry) (pending_of self.old.pending)) self.old self.new result }
     {
-        match self.pending {
-            Pending::Reply(waiting) => self.give_as(kind, waiting, body),
-            Pending::Nothing | Pending::Object(_) => self.say(Status::NotNow),
-        }
+        let Pending::Reply(waiting) = self.pending else {
+            return self.say(Status::NotNow);
+        };
+        self.give_as(kind, waiting, body)
     }
 
     // A discovery: what the card says of itself, made anew.

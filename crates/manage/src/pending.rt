@@ -9,7 +9,7 @@ pub struct Gathered {
     pub bytes: Buffer,
 }
 
-// A reply that waits, and how many bytes of it were given.
+// A reply that waits, and how many bytes of it were given. It is held whole, since it may be asked for again from its start.
 #[derive(Clone, Copy)]
 pub struct Waiting {
     pub kind: Kind,

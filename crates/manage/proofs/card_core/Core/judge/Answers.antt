@@ -7,10 +7,10 @@ use Rattle.manage.proofs.card_core.Core.judge.Goals as goal
 
 pub returns-in-Err-Bad : goal.returns-in-Err-Bad
 returns-in-Err-Bad c =
-    joined_bad keyed c.args.self.now c.args.random.now (kind_of c.args.kind) c.args.bytes.now (object c.args.bytes.now) c.refuse.new.self c.refuse.result
+    joined_bad keyed c.args.self.now c.args.lent.random.now (kind_of c.args.kind) c.args.bytes.now (object c.args.bytes.now) c.refuse.new.self c.refuse.result
     (search rules) c.refuse.ensures.core c.refuse.ensures.status
 
 pub returns-in-Err-Incomplete : goal.returns-in-Err-Incomplete
 returns-in-Err-Incomplete c =
-    joined_begun keyed c.args.self.now c.args.random.now (kind_of c.args.kind) c.args.bytes.now (object c.args.bytes.now)
+    joined_begun keyed c.args.self.now c.args.lent.random.now (kind_of c.args.kind) c.args.bytes.now (object c.args.bytes.now)
     (record { kind = c.args.kind; bytes = c.from_slice.result }) (search rules) refl c.from_slice.ensures
