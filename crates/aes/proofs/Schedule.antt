@@ -2,7 +2,7 @@
 use Rattle.std.proofs.Common.{◌≡◌, ℕ, ◌+◌, ◌-◌, ◌<◌, ◌≤◌, eqb, List, [], ◌∷◌, ◌++◌, map, length, get_or, take, set, sym, refl, ap, ◌∙◌, add-one, arith, lit<, eqb→eq, length-take}
 use lib.Bits.{bit_xor}
 use Rattle.std.specs.List.{range_with_len}
-use Rattle.std.proofs.lemmas.List.{drop_more, take_more_set, get_or-take, append-nil}
+use Rattle.std.proofs.lemmas.List.{drop_more, take_at, take_more_set, get_or-take, append-nil}
 use Rattle.byte_lists.specs.Bytes.{xors}
 use Rattle.byte_lists.specs.Numbers.{octets}
 use Rattle.byte_lists.proofs.Tables.{every_at, small_at}
@@ -54,5 +54,5 @@ constant_made r x lo hi e =
     ∙ ap (λ y. y ∷ 0 ∷ 0 ∷ 0 ∷ []) (x_powers_at (r - 1) (omega arith))
 
 -- The first four words are the key.
-pub key_words : (key ws rest : List ℕ) (a b c d : ℕ) → ws ≡ a ∷ b ∷ c ∷ d ∷ [] → bytes_of (a ∷ b ∷ c ∷ d ∷ []) ≡ key → bytes_of (take 4 (ws ++ rest)) ≡ extended key 0
-key_words key ws rest a b c d e m = ap (λ y. bytes_of (take 4 (y ++ rest))) e ∙ m ∙ extended_none key
+pub key_words : (key ws rest s : List ℕ) → ws ≡ s → length s ≡ 4 → bytes_of s ≡ key → bytes_of (take 4 (ws ++ rest)) ≡ extended key 0
+key_words key ws rest s e h m = ap (λ y. bytes_of (take 4 (y ++ rest))) e ∙ ap bytes_of (take_at s rest 4 h) ∙ m ∙ extended_none key

@@ -12,10 +12,10 @@ bytes_of (w ∷ ws) = octets 4 w ++ bytes_of ws
 abbrev pub turned : ℕ → List ℕ → List ℕ
 turned n xs = drop (4 - n) xs ++ take (4 - n) xs
 
--- The first byte of a, the second of b, the third of c and the fourth of d.
-abbrev pub gathered : ℕ → ℕ → ℕ → ℕ → List ℕ
-gathered a b c d = slice_index (octets 4 a) 0 ∷ slice_index (octets 4 b) 1 ∷ slice_index (octets 4 c) 2 ∷ slice_index (octets 4 d) 3 ∷ []
+-- A byte of each of four columns: the first of the first, the second of the second, and so on.
+abbrev pub gathered : List ℕ → List ℕ
+gathered cs = slice_index (octets 4 (slice_index cs 0)) 0 ∷ slice_index (octets 4 (slice_index cs 1)) 1 ∷ slice_index (octets 4 (slice_index cs 2)) 2 ∷ slice_index (octets 4 (slice_index cs 3)) 3 ∷ []
 
--- The sum of what f gives for each of four bytes, each turned right by one place more than the one before.
+-- The sum of what f gives for each of four, each turned right by one place more than the one before.
 abbrev pub looked_up : (ℕ → List ℕ) → List ℕ → List ℕ
 looked_up f xs = xors (xors (f (slice_index xs 0)) (turned 1 (f (slice_index xs 1)))) (xors (turned 2 (f (slice_index xs 2))) (turned 3 (f (slice_index xs 3))))

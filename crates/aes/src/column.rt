@@ -34,9 +34,10 @@ pub fn turned_right(word: u32, bytes: u32) -> u32
 }
 
 // The sum of four words, each turned right by one byte more than the one before.
-fn turned_sum(a: u32, b: u32, c: u32, d: u32) -> u32
-    ensures { octets 4 result ≡ xors (xors (octets 4 a) (turned 1 (octets 4 b))) (xors (turned 2 (octets 4 c)) (turned 3 (octets 4 d))) }
+fn turned_sum(words: [u32; 4]) -> u32
+    ensures { octets 4 result ≡ looked_up (octets 4) words }
 {
+    let [a, b, c, d] = words;
     added(
         added(a, turned_right(b, 1)),
         added(turned_right(c, 2), turned_right(d, 3)),
@@ -44,23 +45,25 @@ fn turned_sum(a: u32, b: u32, c: u32, d: u32) -> u32
 }
 
 // The sum of what `find` finds for one row of each of four columns, each turned right by one byte more than the one before.
-fn products<F: Fn(u8) -> u32>(a: u32, b: u32, c: u32, d: u32, find: F) -> u32
+fn products<F: Fn(u8) -> u32>(columns: [u32; 4], find: F) -> u32
     requires { F.IsAlwaysCallable find }
-    ensures { (g : ℕ → List ℕ) → ((x y : ℕ) → x < 256 → F.post find x y → octets 4 y ≡ g x) → octets 4 result ≡ looked_up g (gathered a b c d) }
+    ensures { (g : ℕ → List ℕ) → ((x y : ℕ) → x < 256 → F.post find x y → octets 4 y ≡ g x) → octets 4 result ≡ looked_up g (gathered columns) }
 {
-    turned_sum(
+    let [a, b, c, d] = columns;
+    turned_sum([
         find(byte_in(a, 0)),
         find(byte_in(b, 1)),
         find(byte_in(c, 2)),
         find(byte_in(d, 3)),
-    )
+    ])
 }
 
 // The column of what `put` puts for one row of each of four.
-fn replaced<F: Fn(u8) -> u8>(a: u32, b: u32, c: u32, d: u32, put: F) -> u32
+fn replaced<F: Fn(u8) -> u8>(columns: [u32; 4], put: F) -> u32
     requires { F.IsAlwaysCallable put }
-    ensures { (g : ℕ → ℕ) → ((x y : ℕ) → x < 256 → F.post put x y → y ≡ g x) → octets 4 result ≡ map g (gathered a b c d) }
+    ensures { (g : ℕ → ℕ) → ((x y : ℕ) → x < 256 → F.post put x y → y ≡ g x) → octets 4 result ≡ map g (gathered columns) }
 {
+    let [a, b, c, d] = columns;
     u32::from_be_bytes([
         put(byte_in(a, 0)),
         put(byte_in(b, 1)),
@@ -70,17 +73,17 @@ fn replaced<F: Fn(u8) -> u8>(a: u32, b: u32, c: u32, d: u32, put: F) -> u32
 }
 
 // SubBytes and MixColumns of the column that takes a row from each of four.
-pub fn sub_mixed(a: u32, b: u32, c: u32, d: u32) -> u32
-    ensures { octets 4 result ≡ mix_columns (sub_bytes (gathered a b c d)) }
+pub fn sub_mixed(columns: [u32; 4]) -> u32
+    ensures { octets 4 result ≡ mix_columns (sub_bytes (gathered columns)) }
 {
-    products(a, b, c, d, |x| sub_mix(x))
+    products(columns, |x| sub_mix(x))
 }
 
 // SubBytes of the column that takes a row from each of four.
-pub fn substituted(a: u32, b: u32, c: u32, d: u32) -> u32
-    ensures { octets 4 result ≡ sub_bytes (gathered a b c d) }
+pub fn substituted(columns: [u32; 4]) -> u32
+    ensures { octets 4 result ≡ sub_bytes (gathered columns) }
 {
-    replaced(a, b, c, d, |x| sub_byte(x))
+    replaced(columns, |x| sub_byte(x))
 }
 
 // SubBytes of a column.
@@ -88,19 +91,19 @@ pub fn substituted(a: u32, b: u32, c: u32, d: u32) -> u32
 pub fn sub_word(word: u32) -> u32
     ensures { octets 4 result ≡ sub_bytes (octets 4 word) }
 {
-    substituted(word, word, word, word)
+    substituted([word; 4])
 }
 
 // InvSubBytes of the column that takes a row from each of four.
-pub fn inv_substituted(a: u32, b: u32, c: u32, d: u32) -> u32
-    ensures { octets 4 result ≡ inv_sub_bytes (gathered a b c d) }
+pub fn inv_substituted(columns: [u32; 4]) -> u32
+    ensures { octets 4 result ≡ inv_sub_bytes (gathered columns) }
 {
-    replaced(a, b, c, d, |x| inv_sub_byte(x))
+    replaced(columns, |x| inv_sub_byte(x))
 }
 
 // InvMixColumns of a column.
 pub fn inv_mixed(column: u32) -> u32
     ensures { octets 4 result ≡ inv_mix_columns (octets 4 column) }
 {
-    products(column, column, column, column, |x| inv_mix(x))
+    products([column; 4], |x| inv_mix(x))
 }

@@ -52,9 +52,8 @@ fn joining_word(i: usize, before: u32) -> u32
 pub fn expand(key: &[u8; 16]) -> [u32; 44]
     ensures { bytes_of result ≡ key_expansion key.now }
 {
-    let first = state_of(key);
     let mut keys = [0u32; 44];
-    keys[0..4].copy_from_slice(&[first.c0, first.c1, first.c2, first.c3]);
+    keys[0..4].copy_from_slice(&state_of(key).0);
     // By number: each word is made of two before it in the same array, which no iterator lends.
     for n in 0..40usize {
         keys[n + 4] = keys[n] ^ joining_word(n + 4, keys[n + 3]);

@@ -15,25 +15,22 @@ use crate::state::State;
 pub fn add_round_key(s: State, key: &[u32; 4]) -> State
     ensures { state_bytes result ≡ xors (state_bytes s) (bytes_of key.now) }
 {
-    State {
-        c0: s.c0 ^ key[0],
-        c1: s.c1 ^ key[1],
-        c2: s.c2 ^ key[2],
-        c3: s.c3 ^ key[3],
-    }
+    let [a, b, c, d] = s.0;
+    State([a ^ key[0], b ^ key[1], c ^ key[2], d ^ key[3]])
 }
 
 // ShiftRows, each column as `made` makes it of the four from which it takes a row.
-fn shifted<F: Fn(u32, u32, u32, u32) -> u32>(s: State, made: F) -> State
+fn shifted<F: Fn([u32; 4]) -> u32>(s: State, made: F) -> State
     requires { F.IsAlwaysCallable made }
-    ensures { (g : List ℕ → List ℕ) → ((a b c d y : ℕ) → F.post made a b c d y → octets 4 y ≡ g (gathered a b c d)) → state_bytes result ≡ shifted_columns g s }
+    ensures { (g : List ℕ → List ℕ) → ((columns : List ℕ) (y : ℕ) → F.post made columns y → octets 4 y ≡ g (gathered columns)) → state_bytes result ≡ shifted_columns g s }
 {
-    State {
-        c0: made(s.c0, s.c1, s.c2, s.c3),
-        c1: made(s.c1, s.c2, s.c3, s.c0),
-        c2: made(s.c2, s.c3, s.c0, s.c1),
-        c3: made(s.c3, s.c0, s.c1, s.c2),
-    }
+    let [a, b, c, d] = s.0;
+    State([
+        made([a, b, c, d]),
+        made([b, c, d, a]),
+        made([c, d, a, b]),
+        made([d, a, b, c]),
+    ])
 }
 
 // The four rounds below are a line each, and each keeps the name and the equation of its step.
@@ -57,25 +54,20 @@ pub fn last_forward(s: State, key: &[u32; 4]) -> State
 fn shifted_back(s: State) -> State
     ensures { state_bytes result ≡ inv_sub_bytes (inv_shift_rows (state_bytes s)) }
 {
-    State {
-        c0: inv_substituted(s.c0, s.c3, s.c2, s.c1),
-        c1: inv_substituted(s.c1, s.c0, s.c3, s.c2),
-        c2: inv_substituted(s.c2, s.c1, s.c0, s.c3),
-        c3: inv_substituted(s.c3, s.c2, s.c1, s.c0),
-    }
+    let [a, b, c, d] = s.0;
+    State([
+        inv_substituted([a, d, c, b]),
+        inv_substituted([b, a, d, c]),
+        inv_substituted([c, b, a, d]),
+        inv_substituted([d, c, b, a]),
+    ])
 }
 
 // InvMixColumns.
-#[tactic(auto, using(crate::proofs::FourColumns::mixed_back_made))]
 fn mixed_back(s: State) -> State
     ensures { state_bytes result ≡ inv_mix_columns (state_bytes s) }
 {
-    State {
-        c0: inv_mixed(s.c0),
-        c1: inv_mixed(s.c1),
-        c2: inv_mixed(s.c2),
-        c3: inv_mixed(s.c3),
-    }
+    State(s.0.map(inv_mixed))
 }
 
 // A round undone.

@@ -17,20 +17,21 @@ pub fn state_of(block: &[u8; 16]) -> State
     ensures { state_bytes result ≡ block.now }
 {
     let columns = block.as_chunks::<4>().0;
-    State {
-        c0: word(&columns[0]),
-        c1: word(&columns[1]),
-        c2: word(&columns[2]),
-        c3: word(&columns[3]),
-    }
+    State([
+        word(&columns[0]),
+        word(&columns[1]),
+        word(&columns[2]),
+        word(&columns[3]),
+    ])
 }
 
 // Writes the state into the block, by four ranges: `as_chunks_mut` promises nothing of what the block ends as.
 pub fn write(s: State, block: &mut [u8; 16])
     ensures { block.new ≡ state_bytes s }
 {
-    block[0..4].copy_from_slice(&s.c0.to_be_bytes());
-    block[4..8].copy_from_slice(&s.c1.to_be_bytes());
-    block[8..12].copy_from_slice(&s.c2.to_be_bytes());
-    block[12..16].copy_from_slice(&s.c3.to_be_bytes());
+    let [a, b, c, d] = s.0;
+    block[0..4].copy_from_slice(&a.to_be_bytes());
+    block[4..8].copy_from_slice(&b.to_be_bytes());
+    block[8..12].copy_from_slice(&c.to_be_bytes());
+    block[12..16].copy_from_slice(&d.to_be_bytes());
 }

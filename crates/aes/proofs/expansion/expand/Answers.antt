@@ -1,4 +1,4 @@
-use Rattle.std.proofs.Common.{◌≡◌, ◌+◌, ◌<◌, ◌≤◌, length, sym, ap, ◌∙◌, arith, length-append, length-set}
+use Rattle.std.proofs.Common.{◌≡◌, ◌+◌, ◌<◌, ◌≤◌, length, sym, ap, ◌∙◌, rules, arith, length-append, length-set}
 use Rattle.std.proofs.lemmas.List.{take_all}
 use Rattle.aes.specs.KeyExpansion.{extended}
 use Rattle.aes.specs.Words.{bytes_of}
@@ -6,11 +6,10 @@ use Rattle.aes.proofs.Schedule.{key_words, extended_more}
 use Rattle.aes.proofs.expansion.expand.Goals as goal
 
 pub loop-n-init : goal.loop-n-init
-loop-n-init c =
-    let s = c.state_of-first.result in (
-      length-append c.copy_from_slice.new.self _ ∙ ap (λ n. n + 40) c.copy_from_slice.ensures.len,
-      key_words c.args.key.now c.copy_from_slice.new.self _ s.c0 s.c1 s.c2 s.c3 c.copy_from_slice.ensures.after c.state_of-first.ensures,
-    )
+loop-n-init c = (
+  length-append c.copy_from_slice.new.self _ ∙ ap (λ n. n + 40) c.copy_from_slice.ensures.len,
+  key_words c.args.key.now c.copy_from_slice.new.self _ c.state_of.result.0 c.copy_from_slice.ensures.after (search rules) c.state_of.ensures,
+)
 
 pub loop-n-preserved : goal.loop-n-preserved
 loop-n-preserved c =

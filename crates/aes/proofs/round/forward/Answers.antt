@@ -7,4 +7,4 @@ use Rattle.aes.proofs.round.forward.Goals as goal
 
 pub returns : goal.returns
 returns c =
-    c.add_round_key.ensures ∙ ap (λ y. xors y (bytes_of c.args.key.now)) (c.shifted.ensures (λ xs. mix_columns (sub_bytes xs)) (λ a b x d y p. search rules) ∙ mixed_columns c.args.s)
+    c.add_round_key.ensures ∙ ap (λ y. xors y (bytes_of c.args.key.now)) (c.shifted.ensures (λ xs. mix_columns (sub_bytes xs)) (λ cs y p. search rules) ∙ mixed_columns c.args.s (search rules))

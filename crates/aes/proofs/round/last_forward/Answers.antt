@@ -7,4 +7,4 @@ use Rattle.aes.proofs.round.last_forward.Goals as goal
 
 pub returns : goal.returns
 returns c =
-    c.add_round_key.ensures ∙ ap (λ y. xors y (bytes_of c.args.key.now)) (c.shifted.ensures sub_bytes (λ a b x d y p. search rules) ∙ plain_columns c.args.s)
+    c.add_round_key.ensures ∙ ap (λ y. xors y (bytes_of c.args.key.now)) (c.shifted.ensures sub_bytes (λ cs y p. search rules) ∙ plain_columns c.args.s (search rules))
