@@ -25,7 +25,8 @@ pub fn state_of(block: &[u8; 16]) -> State
     ])
 }
 
-// Writes the state into the block, by four ranges: `as_chunks_mut` promises nothing of what the block ends as.
+// Writes the state into the block, by four ranges: `as_chunks_mut` promises nothing of what the block ends as, and one copy of
+// the columns' bytes, flattened, is slower.
 pub fn write(s: State, block: &mut [u8; 16])
     ensures { block.new ≡ state_bytes s }
 {
