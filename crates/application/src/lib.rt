@@ -14,7 +14,7 @@ pub trait Application {
     ghost acts: { Acts Contents };
 
     // Runs a command of any bytes and any length: writes the reply at the start of the buffer, which the card lends since
-    // there is no heap, leaves the rest, and gives the reply's length.
+    // there is no heap, leaves the rest, and gives the reply's length. The buffer may be longer, so it is no array.
     fn run(&mut self, command: &[u8], buffer: &mut [u8]) -> usize
         requires { 258 ≤ length buffer.old }
         ensures len { result ≡ length (acts.reply (contents self.old) command.now) }

@@ -19,7 +19,7 @@ impl FareCounter {
             fares: [Fare {
                 class: 0,
                 amount: 0,
-            }; 32],
+            }; FareCounter::ROOM],
             count: 0,
         }
     }

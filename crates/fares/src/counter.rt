@@ -7,7 +7,7 @@ use crate::fare::Fare;
 // No Model and no ArrayVec: the type is Copy, which neither can be where the places behind count are forgotten.
 #[derive(Clone, Copy)]
 pub struct FareCounter {
-    pub(crate) fares: [Fare; 32],
+    pub(crate) fares: [Fare; FareCounter::ROOM],
     pub(crate) count: usize,
     ghost room: { count ≤ 32 },
 }

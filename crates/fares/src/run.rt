@@ -10,8 +10,10 @@ use crate::counter::FareCounter;
 use apdu::{Apdu, Status, put_reply, put_status};
 use application::Application;
 
+// The instructions are bytes and no enum, which a match on the same two bytes would have to make.
+
 // The instruction that appends a fare.
-const APPEND: u8 = 0xE2;
+pub(crate) const APPEND: u8 = 0xE2;
 // The instruction that asks for the sum.
 const TOTAL: u8 = 0xCA;
 

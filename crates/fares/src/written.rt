@@ -5,6 +5,7 @@ ghost use Rattle.fares.specs.Counter.{fare_in};
 ghost use Rattle.fares.specs.Written.{fare_bytes, fare_words, appending};
 
 use crate::fare::Fare;
+use crate::run::APPEND;
 use std::fmt;
 
 impl Fare {
@@ -23,6 +24,7 @@ impl Fare {
     }
 
     // Class, and amount with its highest byte first: the data that names the fare, where its class is 7 at most.
+    // By name and no `From`: two facts are promised of it.
     #[tactic(auto, using(byte_lists::proofs::Digits::octets_four))]
     pub fn bytes(self) -> [u8; 5]
         ensures bytes { result ≡ fare_bytes self }
@@ -37,7 +39,7 @@ impl Fare {
         ensures { result ≡ command_bytes (appending self) }
     {
         let [class, a, b, c, d] = self.bytes();
-        [0x00, 0xE2, 0x00, 0x00, 0x05, class, a, b, c, d]
+        [0x00, APPEND, 0x00, 0x00, 0x05, class, a, b, c, d]
     }
 }
 

@@ -1,5 +1,5 @@
 // Reading and writing records.
-ghost use Rattle.std.specs.Prelude.{◌≡◌, ◌<◌, [], length, IfSome};
+ghost use Rattle.std.specs.Prelude.{◌≡◌, ◌<◌, [], IfSome};
 ghost use Rattle.std.specs.Option.{option_map};
 ghost use Rattle.apdu.specs.Reply.{reply};
 ghost use Rattle.records.specs.File.{blank, place as placed, record_at, write_at, keeps};
@@ -31,14 +31,11 @@ impl RecordFile {
         }
     }
 
-    // The record with this number.
-    // A slice and no array: of an array in a record's place the proof had no fact on its length.
-    pub(crate) fn record(&self, number: u8) -> Option<&[u8]>
-        ensures bytes { option_map (λ r. r.now) result ≡ option_map (record_at (records_of self.now)) (placed number) }
-        ensures len { IfSome result (λ r. length r.now ≡ 16) }
+    // The record with this number. By `first_chunk`, which says that there are 16 bytes; the array itself does not.
+    pub(crate) fn record(&self, number: u8) -> Option<&[u8; 16]>
+        ensures { option_map (λ r. r.now) result ≡ option_map (record_at (records_of self.now)) (placed number) }
     {
-        let place = place(number)?;
-        Some(&self.records[place][..16])
+        self.records[place(number)?].first_chunk()
     }
 
     // Writes the data to the record with this number. The answer is the reply's status word, done or not, so it is no Result.

@@ -9,6 +9,8 @@ use crate::file::RecordFile;
 use apdu::{Apdu, Status, put_reply, put_status};
 use application::Application;
 
+// The instructions are bytes and no enum, which a match on the same two bytes would have to make.
+
 // The instruction that reads a record.
 const READ: u8 = 0xB2;
 // The instruction that writes a record.
