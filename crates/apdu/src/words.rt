@@ -66,7 +66,7 @@ impl TryFrom<[u8; 2]> for Status {
 }
 
 impl Status {
-    // What the status word says, in words.
+    // What the status word says, in words. Beside `Display`, since a formatter may fail and this can not.
     pub fn words(self) -> &'static str
         ensures { result.now ≡ status_words self }
     {

@@ -1,4 +1,4 @@
-// Decimal numbers.
+// Decimal numbers. Not by `str::parse`, which takes a sign and zeros in front.
 ghost use Rattle.std.specs.Prelude.{◌≡◌, ◌≤◌, [], ◌∷◌, IfSome};
 ghost use Rattle.numerals.specs.Decimal.{digits, numeral, upto};
 
@@ -26,10 +26,7 @@ fn read_digits(text: &[u8], top: u64) -> Option<u64>
 fn with_digit(value: u64, c: u8, top: u64) -> Option<u64>
     ensures { result ≡ upto top (digits value (c ∷ [])) }
 {
-    if !c.is_ascii_digit() {
-        return None;
-    }
-    let tens = value.checked_mul(10)?;
-    let next = tens.checked_add(u64::from(c - b'0'))?;
-    if next > top { None } else { Some(next) }
+    let digit = char::from(c).to_digit(10)?;
+    let next = value.checked_mul(10)?.checked_add(u64::from(digit))?;
+    (next <= top).then_some(next)
 }

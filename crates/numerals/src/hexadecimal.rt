@@ -2,7 +2,16 @@
 ghost use Rattle.std.specs.Prelude.{◌≡◌, ◌*◌, ◌<◌, length, is_some, IfSome};
 ghost use Rattle.numerals.specs.Hexadecimal.{digit, sized, unhex, when};
 
-// Fills `bytes` from pairs of digits 0-9 A-F; nothing where `text` is anything but so many pairs.
+// The `N` bytes that pairs of digits 0-9 A-F write; nothing where `text` is anything but `N` pairs.
+pub fn read_array<const N: usize>(text: &[u8]) -> Option<[u8; N]>
+    ensures { result ≡ sized N N (unhex text.now) }
+{
+    let mut bytes = [0; N];
+    read_hexadecimal(text, &mut bytes)?;
+    Some(bytes)
+}
+
+// The same into a slice, for as many bytes as are known only when it runs.
 pub fn read_hexadecimal(text: &[u8], bytes: &mut [u8]) -> Option<()>
     ensures { when (is_some result) bytes.new ≡ sized (length bytes.old) (length bytes.old) (unhex text.now) }
 {
@@ -26,7 +35,7 @@ fn fill(text: &[u8], bytes: &mut [u8]) -> Option<()>
     Some(())
 }
 
-// The value of one digit, 0-9 or A-F.
+// The value of one digit, 0-9 or A-F. By ranges, since `to_digit` takes a-f too.
 fn digit_value(c: u8) -> Option<u8>
     ensures value { result ≡ digit c }
     ensures small { IfSome result (λ d. d < 16) }

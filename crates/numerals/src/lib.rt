@@ -5,4 +5,4 @@ mod decimal;
 mod hexadecimal;
 
 pub use decimal::read_decimal;
-pub use hexadecimal::read_hexadecimal;
+pub use hexadecimal::{read_array, read_hexadecimal};

@@ -1,6 +1,6 @@
 // A key that was loaded, with its limits.
 ghost use Rattle.std.specs.Prelude.{◌≡◌, ◌≤◌, length};
-ghost use Rattle.personalise.specs.Limits.{malformed_limit, Within};
+ghost use Rattle.personalise.specs.Limits.{Within};
 ghost use Rattle.personalise.specs.Load.{key_of, limited};
 ghost use Rattle.personalise.specs.Says.{answered, ref_of, says};
 
@@ -32,7 +32,7 @@ impl KeyLoad {
         requires connections { Within 4294967295 connections }
         ensures { answered result ≡ limited (key_of (ref_of reference) key weak) masters connections transactions }
     {
-        if is_malformed(masters) || is_malformed(connections) || is_malformed(transactions) {
+        if [masters, connections, transactions].contains(&Err(Refusal::Malformed)) {
             return Err(Refusal::Malformed);
         }
         Ok(KeyLoad {
@@ -87,11 +87,4 @@ impl KeyLoad {
     {
         self.transactions
     }
-}
-
-// Whether a limit's line is malformed.
-fn is_malformed(limit: Result<u64, Refusal>) -> bool
-    ensures { result ≡ malformed_limit limit }
-{
-    matches!(limit, Err(Refusal::Malformed))
 }

@@ -13,7 +13,7 @@ use crate::limit::read_limit;
 use crate::reader::Reader;
 use crate::reference::Reference;
 use crate::refusal::Refusal;
-use numerals::read_hexadecimal;
+use numerals::read_array;
 
 // The key that a text loads, or why it is refused. Any bytes may be given. No `TryFrom`: three facts are promised of it.
 pub fn read(text: &[u8]) -> Result<KeyLoad, Refusal>
@@ -28,9 +28,9 @@ pub fn read(text: &[u8]) -> Result<KeyLoad, Refusal>
     let reference = reference_line(&mut lines);
     let key = key_line(&mut lines);
     let weak = weak_line(&mut lines);
-    let masters = limit_line(&mut lines, b"masters=", 65_535);
-    let connections = limit_line(&mut lines, b"connections=", 4_294_967_295);
-    let transactions = limit_line(&mut lines, b"transactions=", 18_446_744_073_709_551_615);
+    let masters = limit_line(&mut lines, b"masters=", u16::MAX as u64);
+    let connections = limit_line(&mut lines, b"connections=", u32::MAX as u64);
+    let transactions = limit_line(&mut lines, b"transactions=", u64::MAX);
     if !lines.is_done() {
         return Err(Refusal::Malformed);
     }
@@ -76,10 +76,7 @@ fn key_line(lines: &mut Reader<'_>) -> Option<[u8; 32]>
     ensures value { result ≡ hexed 32 32 (value (codes "key=") (left lines.old)) }
     ensures past { left lines.new ≡ past (codes "key=") (left lines.old) }
 {
-    let digits = lines.value(b"key=")?;
-    let mut key = [0; 32];
-    read_hexadecimal(digits, &mut key)?;
-    Some(key)
+    read_array(lines.value(b"key=")?)
 }
 
 // `weak=`: 0 or 1.
@@ -87,16 +84,9 @@ fn weak_line(lines: &mut Reader<'_>) -> Option<bool>
     ensures value { result ≡ flag (value (codes "weak=") (left lines.old)) }
     ensures past { left lines.new ≡ past (codes "weak=") (left lines.old) }
 {
-    read_flag(lines.value(b"weak="))
-}
-
-// 0 or 1, and nothing else.
-fn read_flag(value: Option<&[u8]>) -> Option<bool>
-    ensures { result ≡ flag (option_map (λ x. x.now) value.entry) }
-{
-    match value {
-        Some([b'0']) => Some(false),
-        Some([b'1']) => Some(true),
+    match lines.value(b"weak=")? {
+        [b'0'] => Some(false),
+        [b'1'] => Some(true),
         _ => None,
     }
 }

@@ -29,9 +29,10 @@ impl Reference {
             return None;
         }
         let mut bytes = [0; LONGEST];
-        read_hexadecimal(digits, &mut bytes[0..len])?;
+        let bytes = &mut bytes[..len];
+        read_hexadecimal(digits, bytes)?;
         Some(Reference {
-            bytes: Store::of(bytes, len),
+            bytes: Store::from_slice(bytes),
         })
     }
 

@@ -2,16 +2,16 @@
 use std::error::Error;
 use std::fmt;
 
-// Why the text of a load gives no key.
+// Why the text of a load gives no key, and the number by which the card answers it.
 #[derive(Clone, Copy, PartialEq, Eq, Debug)]
 pub enum Refusal {
     // It is not six lines in their order, each in its form.
-    Malformed,
+    Malformed = 1,
     // It is well formed, and a limit is not set.
-    Unset,
+    Unset = 2,
 }
 
-// The number by which the card answers it.
+// That number.
 impl From<Refusal> for u8 {
     ghost use Rattle.std.specs.Prelude.{◌≡◌};
     ghost use Rattle.personalise.specs.Refusals.{refusal_number};
@@ -19,10 +19,7 @@ impl From<Refusal> for u8 {
     ghost from_gives = { λ refusal number. number ≡ refusal_number refusal };
 
     fn from(refusal: Refusal) -> u8 {
-        match refusal {
-            Refusal::Malformed => 1,
-            Refusal::Unset => 2,
-        }
+        refusal as u8
     }
 }
 
@@ -30,7 +27,7 @@ impl Refusal {
     ghost use Rattle.std.specs.Prelude.{◌≡◌};
     ghost use Rattle.personalise.specs.Refusals.{refusal_words};
 
-    // The refusal in words, for people.
+    // The refusal in words, for people. Beside `Display`, since a formatter may fail and this can not.
     pub fn words(self) -> &'static str
         ensures { result.now ≡ refusal_words self }
     {

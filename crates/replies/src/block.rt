@@ -1,7 +1,7 @@
 //! Blocks: a reply goes out in parts as long as the terminal asks for, an answer in parts of the container's size.
 ghost use Rattle.std.specs.Prelude.{◌≡◌, ◌<◌};
 ghost use Rattle.std.specs.Option.{option_map};
-ghost use Rattle.replies.specs.Blocks.{seen, front_of, block_of, cut_block, cut_count};
+ghost use Rattle.replies.specs.Blocks.{seen, block_of, cut_block, cut_count};
 
 /// A part of a string of bytes. Both are there in every case, so it is no Option.
 #[derive(Clone, Copy)]
@@ -15,7 +15,11 @@ pub struct Block<'a> {
 pub fn reply_block(whole: &[u8], place: usize, most: usize) -> Block<'_>
     ensures { seen result ≡ block_of whole.now place most }
 {
-    front(whole.get(place..).unwrap_or(&[]), most)
+    let rest = whole.get(place..).unwrap_or(&[]);
+    Block {
+        bytes: &rest[..most.min(rest.len())],
+        more: most < rest.len(),
+    }
 }
 
 /// The answer block of this number, counted from 0, where the answer is cut at `size` bytes.
@@ -24,10 +28,7 @@ pub fn answer_block(whole: &[u8], size: u8, number: u8) -> Option<Block<'_>>
 {
     let first = usize::from(number) * usize::from(size);
     // Not by `get(first..)`, which gives an empty part at the very end.
-    if first >= whole.len() {
-        return None;
-    }
-    Some(reply_block(whole, first, usize::from(size)))
+    (first < whole.len()).then(|| reply_block(whole, first, usize::from(size)))
 }
 
 /// How many blocks of `size` bytes an answer makes.
@@ -36,15 +37,4 @@ pub fn block_count(whole: &[u8], size: u8) -> usize
     ensures { result ≡ cut_count size whole.now }
 {
     whole.len().div_ceil(usize::from(size))
-}
-
-// The first part of what is left, and whether that leaves anything.
-fn front(rest: &[u8], most: usize) -> Block<'_>
-    ensures { seen result ≡ front_of rest.now most }
-{
-    let more = most < rest.len();
-    Block {
-        bytes: &rest[..most.min(rest.len())],
-        more,
-    }
 }

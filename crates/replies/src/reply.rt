@@ -27,7 +27,7 @@ pub struct MasterReply {
     pub id: [u8; 16],
 }
 
-/// A new connection.
+/// A new connection. Cipher and mechanism are the bytes that go over the line: a reader may meet some that name no suite.
 #[derive(Clone, Copy)]
 pub struct ConnectionReply {
     pub id: [u8; 16],

@@ -1,4 +1,4 @@
-//! Writing objects, one behind the other.
+//! Writing objects, one behind the other, in fixed memory. A terminal writes its own on the heap, which the card lacks.
 ghost use Rattle.std.specs.Prelude.{◌≡◌, ◌+◌, ◌<◌, ◌≤◌, ◌++◌, length};
 ghost use Rattle.buffer.specs.Held.{held};
 ghost use Rattle.replies.specs.Reply.{tagged};
@@ -11,13 +11,6 @@ pub fn push<const N: usize>(objects: &mut Store<N>, tag: u8, value: &[u8])
     requires room { length (held objects.old) + (2 + length value.now) ≤ N }
     ensures { held objects.new ≡ held objects.old ++ tagged tag value.now }
 {
-    objects.append(&[tag, length_byte(value)]).unwrap();
+    objects.append(&[tag, value.len() as u8]).unwrap();
     objects.append(value).unwrap();
-}
-
-fn length_byte(value: &[u8]) -> u8
-    requires { length value.now < 256 }
-    ensures { result ≡ length value.now }
-{
-    value.len() as u8
 }
