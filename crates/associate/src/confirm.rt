@@ -1,5 +1,5 @@
 // The reply that confirms a new connection.
-ghost use Rattle.std.specs.Prelude.{◌≡◌, Some, None};
+ghost use Rattle.std.specs.Prelude.{◌≡◌, Some};
 ghost use Rattle.replies.specs.Reply.{reply_object};
 ghost use Rattle.law.specs.Associations.{mac_of};
 ghost use Rattle.law.specs.Associate.{new_connection, suite_reply};
@@ -23,7 +23,6 @@ pub fn confirmed_connection(
     area: &mut [u8; 64],
 ) -> (Connection, Reply)
     ensures connection { connection_of result.0 ≡ new_connection keyed random.now request.now.nonce.now suite (at_of master_of master.now) }
-    ensures unstarted { result.0.session ≡ None }
     ensures reply { reply_object result.1 ≡ suite_reply keyed random.now request.now.master.now request.now.nonce.now request.now.ciphers request.now.mechanisms (at_of master_of master.now) (Some suite) }
 {
     let connection = new_connection(master, suite, random, request.nonce, area);

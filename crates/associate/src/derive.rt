@@ -1,5 +1,5 @@
 // What a new master and a new connection are made of.
-ghost use Rattle.std.specs.Prelude.{◌≡◌, None};
+ghost use Rattle.std.specs.Prelude.{◌≡◌};
 ghost use Rattle.law.specs.Associations.{new_master, id_of, nonce_of, material};
 ghost use Rattle.law.specs.Associate.{new_connection};
 ghost use Rattle.law.specs.Hashes.{keyed};
@@ -9,6 +9,8 @@ ghost use Rattle.associate.specs.Said.{cut};
 use hmac::{expand, mac};
 use sealing::Suite;
 use tables::{At, Connection, Key, Master};
+
+// The two below cut the random bytes in halves: a line each, and each has its word of the rules.
 
 // The identifier that random bytes make.
 pub fn identifier(random: &[u8; 32]) -> [u8; 16]
@@ -32,7 +34,7 @@ pub fn new_master(key: &At<Key>, random: &[u8; 32]) -> Master
     Master {
         id,
         secret: mac(key.item.load.key(), &id),
-        key: key.row.index(),
+        key: usize::from(key.row),
         count: 0,
     }
 }
@@ -52,17 +54,15 @@ pub fn new_connection(
     nonce: &[u8; 16],
     area: &mut [u8; 64],
 ) -> Connection
-    ensures is { connection_of result ≡ new_connection keyed random.now nonce.now suite (at_of master_of master.now) }
-    ensures unstarted { result.session ≡ None }
+    ensures { connection_of result ≡ new_connection keyed random.now nonce.now suite (at_of master_of master.now) }
 {
     material(&master.item, random, nonce, area);
-    unstarted(identifier(random), master.row.index(), suite, area)
+    unstarted(identifier(random), usize::from(master.row), suite, area)
 }
 
 // A connection that is not started, with its keys cut from the material.
 fn unstarted(id: [u8; 16], master: usize, suite: Suite, material: &[u8; 64]) -> Connection
-    ensures is { connection_of result ≡ cut id master suite material.now }
-    ensures unstarted { result.session ≡ None }
+    ensures { connection_of result ≡ cut id master suite material.now }
 {
     Connection {
         id,

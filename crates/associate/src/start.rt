@@ -45,5 +45,5 @@ pub fn start(
 fn session_byte(row: Row) -> u8
     ensures { result ≡ row * 64 }
 {
-    row.byte() * 64
+    u8::from(row) * 64
 }

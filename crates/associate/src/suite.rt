@@ -26,27 +26,17 @@ pub fn common(ciphers: u8, mechanisms: u8) -> Option<Suite>
 fn common_cipher(bits: u8) -> Option<Cipher>
     ensures { result ≡ common_cipher bits }
 {
-    if has_bit(bits, 4) {
-        return Some(Cipher::Aes);
-    }
-    if has_bit(bits, 2) {
-        return Some(Cipher::ThreeKey);
-    }
-    if has_bit(bits, 1) {
-        return Some(Cipher::TwoKey);
-    }
-    None
+    has_bit(bits, 4)
+        .then_some(Cipher::Aes)
+        .or(has_bit(bits, 2).then_some(Cipher::ThreeKey))
+        .or(has_bit(bits, 1).then_some(Cipher::TwoKey))
 }
 
 // The mechanism of the highest bit in common.
 fn common_mechanism(bits: u8) -> Option<Mechanism>
     ensures { result ≡ common_mechanism bits }
 {
-    if has_bit(bits, 4) {
-        return Some(Mechanism::Cmac);
-    }
-    if has_bit(bits, 1) {
-        return Some(Mechanism::Crc32);
-    }
-    None
+    has_bit(bits, 4)
+        .then_some(Mechanism::Cmac)
+        .or(has_bit(bits, 1).then_some(Mechanism::Crc32))
 }

@@ -1,14 +1,11 @@
 -- What a started session makes of a block, a fetch or a discard.
 use Rattle.std.specs.Prelude.{ℕ, Bool, true, false, cond, List, ◌++◌, length, Some, None, Option, Ok, Err, Result, nat_le}
 use Rattle.apdu.specs.Command.{Shape, bare, le, alone, both, data_of}
-use Rattle.apdu.specs.View.{shape_of}
 use Rattle.apdu.specs.declared.status.Status.{Status}
 use Rattle.apdu.specs.declared.status.Status.TheVariants as sw
 use Rattle.law.specs.Tables.{Talk, idle, gathering, answered}
 use Rattle.law.specs.Session.{repeats, in_turn, before, fits}
 use Rattle.law.specs.Step.{holds_talk}
-use Rattle.session.specs.declared.event.Event.{Event}
-use Rattle.session.specs.declared.event.Event.TheVariants.{Block, Fetch, Discard}
 use Rattle.session.specs.declared.event.Heard.{Heard}
 use Rattle.session.specs.declared.event.Heard.TheVariants.{Repeated, Joined, Gives, Discarded}
 
@@ -17,12 +14,6 @@ pub data Ask : Type 0 where
   block : ℕ → Shape → Ask
   fetch : Ask
   discard : Shape → Ask
-
--- An event as the rules speak of it.
-abbrev pub ask_of : Event → Ask
-ask_of (Block p2 body) = block p2 (shape_of body)
-ask_of Fetch = fetch
-ask_of (Discard body) = discard (shape_of body)
 
 -- The bytes of a block, which carries data alone, of container size at most.
 abbrev pub contents : ℕ → Shape → Option (List ℕ)

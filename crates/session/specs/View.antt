@@ -1,7 +1,8 @@
 -- A session as the rules speak of it.
-use Rattle.std.specs.Prelude.{ℕ, List, [], Some, None, Option}
+use Rattle.std.specs.Prelude.{◌≡◌, ℕ, cond, List, [], Some, None, Option}
 use Rattle.buffer.specs.Held.{held}
 use Rattle.law.specs.Request as line
+use Rattle.law.specs.Step.{holds_talk}
 use Rattle.law.specs.Tables as law
 use Rattle.session.specs.declared.state.Block.{Block}
 use Rattle.session.specs.declared.state.Talk.{Talk}
@@ -21,6 +22,10 @@ abbrev pub answer_in : Talk → List ℕ
 answer_in Idle = []
 answer_in (Gathering p) = []
 answer_in (Answered h) = held h.answer
+
+-- The answer is kept as long as the session holds one, and no other is there.
+abbrev pub KeepsAnswer : Talk → Talk → Type 0
+KeepsAnswer before after = answer_in after ≡ cond (holds_talk (talk_of after)) (answer_in before) []
 
 -- A connection has no session until it is started.
 abbrev pub session_of : Option Session → law.Session

@@ -26,7 +26,7 @@ impl Block {
         }
     }
 
-    // Whether this is the block with these bytes.
+    // Whether this is the block with these bytes: those of a body, of which no Block is made to be compared.
     pub fn is(&self, p2: u8, bytes: &[u8]) -> bool
         ensures { result ≡ same_block (block_of self.now) p2 bytes.now }
     {

@@ -9,5 +9,5 @@ mod hold;
 mod state;
 
 pub use block::same_bytes;
-pub use event::{Event, Heard};
+pub use event::Heard;
 pub use state::{Block, Held, Part, Session, Talk};

@@ -1,5 +1,5 @@
 // The number of a row.
-ghost use Rattle.std.specs.Prelude.{◌≡◌, ◌<◌, ◌/◌, if◌then◌else◌, nat_lt, Some, None};
+ghost use Rattle.std.specs.Prelude.{◌≡◌, ◌/◌, if◌then◌else◌, nat_lt, Some, None};
 
 use std::marker::Model;
 
@@ -22,9 +22,6 @@ impl Model for Row {
 }
 
 impl Row {
-    // The first row.
-    pub const FIRST: Row = Row { number: 0 };
-
     // The row that the two high bits of a P1 name.
     pub fn of_p1(p1: u8) -> Row
         ensures { result ≡ p1 / 64 }
@@ -32,7 +29,8 @@ impl Row {
         Row { number: p1 / 64 }
     }
 
-    // The row of this number; none where there is no such row.
+    // The row of this number; none where there is no such row. (An `if`: the closure that `then` takes would ask for the bound in
+    // a clause of its own.)
     pub fn at(number: usize) -> Option<Row>
         ensures { result ≡ (if nat_lt number 4 then Some number else None) }
     {
@@ -44,20 +42,22 @@ impl Row {
             None
         }
     }
+}
 
-    // Its number, as the index of an array of four.
-    pub fn index(self) -> usize
-        ensures is { result ≡ self }
-        ensures within { result < 4 }
-    {
-        usize::from(self.number)
+// Its number, as the index of an array of four.
+impl From<Row> for usize {
+    ghost from_gives = { λ row number. number ≡ row };
+
+    fn from(row: Row) -> usize {
+        usize::from(row.number)
     }
+}
 
-    // Its number, as a byte.
-    pub fn byte(self) -> u8
-        ensures is { result ≡ self }
-        ensures within { result < 4 }
-    {
-        self.number
+// Its number, as a byte.
+impl From<Row> for u8 {
+    ghost from_gives = { λ row number. number ≡ row };
+
+    fn from(row: Row) -> u8 {
+        row.number
     }
 }

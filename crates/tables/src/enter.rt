@@ -1,5 +1,5 @@
 // Entering keys, masters, connections and sessions into rows.
-ghost use Rattle.std.specs.Prelude.{◌≡◌, ◌<◌, false, None, slice_set};
+ghost use Rattle.std.specs.Prelude.{◌≡◌, ◌<◌, false, slice_set};
 ghost use Rattle.personalise.specs.Says.{says};
 ghost use Rattle.session.specs.declared.state.Talk.TheVariants.{Idle};
 ghost use Rattle.session.specs.View.{session_of, answer_of};
@@ -17,59 +17,63 @@ use table_rows::Row;
 
 impl Tables {
     // Puts a loaded key into the row; it has yielded no master.
+    #[tactic(auto, using(crate::proofs::Kept::all_kept))]
     pub fn enter_key(&mut self, row: Row, load: KeyLoad)
         ensures tables { tables_of self.new ≡ key_entered (tables_of self.old) row (new_key (says load)) }
         ensures answers { Keeps self.old self.new }
     {
-        self.keys[row.index()] = Some(Key { load, count: 0 });
+        self.keys[usize::from(row)] = Some(Key { load, count: 0 });
     }
 
     // Puts a master into the row, and counts it at its key. A connection is counted at another table, with another bound.
+    #[tactic(auto, using(crate::proofs::Kept::all_kept))]
     pub fn enter_master(&mut self, key: At<Key>, row: Row, master: Master)
         requires { key.item.count < 65535 }
         ensures tables { tables_of self.new ≡ master_entered (tables_of self.old) key.row (key_of key.item) row (master_of master) }
         ensures answers { Keeps self.old self.new }
     {
-        self.keys[key.row.index()] = Some(Key {
+        self.keys[usize::from(key.row)] = Some(Key {
             count: key.item.count + 1,
             ..key.item
         });
-        self.masters[row.index()] = Some(master);
+        self.masters[usize::from(row)] = Some(master);
     }
 
-    // Puts a connection that is not started into the row, and counts it at its master.
+    // Puts a connection into the row, and counts it at its master. The answers stay where its session holds none.
+    #[tactic(auto, using(crate::proofs::Kept::row_dropped))]
     pub fn enter_connection(&mut self, master: At<Master>, row: Row, connection: Connection)
-        requires below { master.item.count < 4294967295 }
-        requires unstarted { connection.session ≡ None }
+        requires { master.item.count < 4294967295 }
         ensures tables { tables_of self.new ≡ connection_entered (tables_of self.old) master.row (master_of master.item) row (connection_of connection) }
-        ensures answers { Keeps self.old self.new }
+        ensures silent { holds_session (session_of connection.session) ≡ false → Keeps self.old self.new }
     {
-        self.masters[master.row.index()] = Some(Master {
+        self.masters[usize::from(master.row)] = Some(Master {
             count: master.item.count + 1,
             ..master.item
         });
-        self.connections[row.index()] = Some(connection);
+        self.connections[usize::from(row)] = Some(connection);
     }
 
     // Starts the session of a connection, idle.
+    #[tactic(auto, using(crate::proofs::Kept::row_dropped))]
     pub fn start(&mut self, at: At<Connection>, session: Session)
         requires { session.talk ≡ Idle }
         ensures tables { tables_of self.new ≡ put_connection (tables_of self.old) at.row (with_session (connection_of at.item) at.item.count (started session.container idle)) }
         ensures answers { Keeps self.old self.new }
     {
         let connection = at.item;
-        self.connections[at.row.index()] = Some(Connection {
+        self.connections[usize::from(at.row)] = Some(Connection {
             session: Some(session),
             ..connection
         });
     }
 
     // Puts a connection into the row, with what its session holds.
+    #[tactic(auto, using(crate::proofs::Kept::row_dropped, crate::proofs::Kept::row_answered))]
     pub fn put_connection(&mut self, row: Row, connection: Connection)
         ensures tables { tables_of self.new ≡ put_connection (tables_of self.old) row (connection_of connection) }
         ensures silent { holds_session (session_of connection.session) ≡ false → Keeps self.old self.new }
         ensures answered { answers_of self.new ≡ slice_set (kept (connections_of self.new.connections) (answers_of self.old)) row (answer_of connection.session) }
     {
-        self.connections[row.index()] = Some(connection);
+        self.connections[usize::from(row)] = Some(connection);
     }
 }

@@ -14,7 +14,8 @@ impl Tables {
             .map_or(0, |key| key.load.connections())
     }
 
-    // The row of the key that the master of this row rests on.
+    // The row of the key that the master of this row rests on. Where the row holds none the rules, too, speak of row 0, so the
+    // two look-ups are no `and_then`.
     fn key_row(&self, master: usize) -> usize
         ensures { result ≡ key_row (slice_index_or (tables_of self.now).masters master None) }
     {

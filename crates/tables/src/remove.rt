@@ -9,11 +9,12 @@ use table_rows::Row;
 
 impl Tables {
     // Removes the connection of the row.
+    #[tactic(auto, using(crate::proofs::Kept::row_dropped))]
     pub fn remove_connection(&mut self, row: Row)
         ensures tables { tables_of self.new ≡ without_connection (tables_of self.old) row }
         ensures answers { Keeps self.old self.new }
     {
-        self.connections[row.index()] = None;
+        self.connections[usize::from(row)] = None;
     }
 
     // Removes the master of the row, and its connections.
@@ -21,7 +22,7 @@ impl Tables {
         ensures tables { tables_of self.new ≡ without_master (tables_of self.old) row }
         ensures answers { Keeps self.old self.new }
     {
-        let row = row.index();
+        let row = usize::from(row);
         self.masters[row] = None;
         retain(&mut self.connections, |connection| connection.master != row);
     }
@@ -31,7 +32,7 @@ impl Tables {
         ensures tables { tables_of self.new ≡ without_key (tables_of self.old) row }
         ensures answers { Keeps self.old self.new }
     {
-        let row = row.index();
+        let row = usize::from(row);
         self.keys[row] = None;
         retain(&mut self.masters, |master| master.key != row);
         let masters = &self.masters;

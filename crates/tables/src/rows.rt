@@ -10,6 +10,8 @@ pub struct Key {
     pub count: u16,
 }
 
+// A row that an item rests on is a plain number: each look-up asks whether there is such a row, so an item may be made with any.
+
 // A master: its identifier, its secret, the row of its key, and how many connections it has yielded.
 #[derive(Clone, Copy)]
 pub struct Master {

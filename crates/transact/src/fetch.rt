@@ -16,7 +16,7 @@ use apdu::{Body, Status};
 use application::Application;
 use manage::Told;
 use sealing::Sealer;
-use session::{Event, Session};
+use session::Session;
 use table_rows::Row;
 
 impl<S: Sealer, A: Application> Parts<S, A> {
@@ -29,7 +29,7 @@ impl<S: Sealer, A: Application> Parts<S, A> {
         let Some(mut started) = Started::at(&self.core, row) else {
             return Status::NotNow;
         };
-        if let Err(status) = started.session.handle(Event::Discard(body)) {
+        if let Err(status) = started.session.discard(body) {
             return status;
         }
         started.go_on(&mut self.core);
@@ -40,10 +40,10 @@ impl<S: Sealer, A: Application> Parts<S, A> {
     pub fn fetch(&self, row: Row, number: u8, body: Body<'_>) -> Told
         ensures { carries S.seals A.acts (state_of self.now.core (A.contents self.now.application)) (fetches (core_of self.now.core) row number (shape_of body.entry) (slice_index_or (tables_of self.now.core.tables).connections row None)) ≡ told self.now.core (A.contents self.now.application) result }
     {
-        let Some(mut started) = Started::at(&self.core, row) else {
+        let Some(started) = Started::at(&self.core, row) else {
             return Told::from(Status::NotNow);
         };
-        if let Err(status) = started.session.handle(Event::Fetch) {
+        if let Err(status) = started.session.fetch() {
             return Told::from(status);
         }
         give(&started.session, row, number, body)

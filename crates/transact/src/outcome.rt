@@ -22,7 +22,7 @@ use tables::Connection;
 pub fn taken(row: Row, higher: bool) -> Status
     ensures { result ≡ sw.Taken (row * 2 + flag higher) }
 {
-    Status::Taken(row.byte() * 2 + u8::from(higher))
+    Status::Taken(u8::from(row) * 2 + u8::from(higher))
 }
 
 // What is said of an event that changes nothing but the session.
@@ -43,7 +43,7 @@ impl Started {
         ensures none { result ≡ None → session_at (slice_index_or (tables_of core.now.tables).connections row None) ≡ unstarted }
         ensures some { IfSome result (λ s. StartedAt core.now row s) }
     {
-        let connection = core.tables.at::<Connection>(row.index())?;
+        let connection = core.tables.at::<Connection>(usize::from(row))?;
         let session = connection.session?;
         Some(Started {
             row,

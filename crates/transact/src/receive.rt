@@ -15,7 +15,7 @@ use crate::started::Started;
 use apdu::{Body, Status};
 use application::Application;
 use sealing::Sealer;
-use session::{Event, Heard};
+use session::Heard;
 use table_rows::Row;
 
 impl<S: Sealer, A: Application> Parts<S, A> {
@@ -40,7 +40,7 @@ impl<S: Sealer, A: Application> Parts<S, A> {
         let Some(mut started) = Started::at(&self.core, row) else {
             return Status::NotNow;
         };
-        let heard = match started.session.handle(Event::Block(p2, body)) {
+        let heard = match started.session.block(p2, body) {
             Ok(heard) => heard,
             Err(status) => return status,
         };

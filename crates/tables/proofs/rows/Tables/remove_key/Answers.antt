@@ -1,11 +1,11 @@
-use Rattle.std.proofs.Common.{◌≡◌, List, map, not, eqb, get_or, is_some, None, Option, refl, rules}
+use Rattle.std.proofs.Common.{◌≡◌, List, map, not, eqb, get_or, is_some, None, Option, rules}
+use lib.Seq.{map-set}
 use Rattle.law.specs.Tables.{off_key}
 use Rattle.tables.specs.declared.rows.Master.{Master}
 use Rattle.tables.specs.declared.rows.Connection.{Connection}
-use Rattle.tables.specs.View.{key_of, masters_of}
+use Rattle.tables.specs.View.{masters_of}
 use Rattle.tables.specs.Retained.{retained}
 use Rattle.tables.proofs.Leaving.{masters_off, connections_on, left_kept}
-use Rattle.tables.proofs.Views.{tables_same, set_seen}
 use Rattle.tables.proofs.rows.Tables.remove_key.Goals as goal
 
 pub returns : goal.returns
@@ -18,9 +18,6 @@ returns c =
     = c.retain-2.ensures (λ x. is_some (get_or left x.master None)) (λ x b k. search rules) in
     let seen : masters_of left ≡ map (off_key i) (masters_of t.masters) = masters_off i t.masters left off in
     record {
-      tables = rw c.index-row.ensures.is (tables_same _ _ _ _ _ _
-          (set_seen key_of t.keys i None None refl)
-          seen
-          (connections_on left (map (off_key i) (masters_of t.masters)) t.connections c.retain-2.new.rows seen on));
+      tables = simp (c.from-row.ensures, map-set, seen, connections_on left (map (off_key i) (masters_of t.masters)) t.connections c.retain-2.new.rows seen on);
       answers = left_kept (λ (x : Connection). is_some (get_or left x.master None)) t.connections c.retain-2.new.rows on;
     }
