@@ -1,9 +1,9 @@
 -- What the card says of an event, told from what the session made of it.
-use Rattle.std.proofs.Common.{◌≡◌, ℕ, Bool, true, false, cond, eqb, List, [], map, get_or, Some, None, Ok, Err, Option, Result, sym, refl, ap, ◌∙◌}
+use Rattle.std.proofs.Common.{◌≡◌, ℕ, Bool, true, false, eqb, List, [], map, get_or, Some, None, Ok, Err, Option, Result, sym, refl, ap, ◌∙◌}
 use lib.ListN.{get_or-map}
 use Rattle.sealing.specs.Sealing.{Sealing}
 use Rattle.application.specs.Acts.{Acts}
-use Rattle.apdu.specs.Command.{Shape, bare, le, alone, both}
+use Rattle.apdu.specs.Command.{Shape}
 use Rattle.apdu.specs.Reply.{reply}
 use Rattle.apdu.specs.StatusWords.{status_bytes}
 use Rattle.apdu.specs.declared.status.Status.{Status}
@@ -12,19 +12,18 @@ use Rattle.session.specs.declared.event.Heard.{Heard}
 use Rattle.session.specs.declared.event.Heard.TheVariants.{Repeated, Joined, Gives, Discarded}
 use Rattle.session.specs.declared.state.Session.{Session}
 use Rattle.session.specs.View.{session_of, talk_of, answer_in, answer_of}
-use Rattle.session.specs.Heard.{block, fetch, discard, joins, turns, takes, fetches, discards, heard}
+use Rattle.session.specs.Heard.{block, fetch, discard, joins, turns, takes, fetches, heard}
 use Rattle.session.specs.Moved.{moved, talk_after}
-use Rattle.session.proofs.Moves.{block_in_session, block_ends, fetch_in_session, discard_in_session, discard_ends}
+use Rattle.session.proofs.Moves.{block_in_session, block_ends, fetch_in_session, discard_in_session}
 use Rattle.replies.specs.Blocks.{cut_block}
 use Rattle.tables.specs.declared.rows.Connection.{Connection}
-use Rattle.tables.specs.View.{connection_of, connections_of, answers_of, answer_at, Keeps}
+use Rattle.tables.specs.View.{connection_of, connections_of, answers_of, answer_at}
 use Rattle.tables.proofs.Kept.{all_kept}
 use Rattle.manage.specs.declared.card_core.Core.{Core}
 use Rattle.manage.specs.declared.told.Told.{Told}
 use Rattle.manage.specs.Told.{bytes_of}
 use Rattle.manage.specs.View.{core_of, Said}
 use Rattle.law.specs.Calls.{replied}
-use Rattle.law.specs.Request as line
 use Rattle.law.specs.Session.{repeats, in_turn, fits, before}
 use Rattle.law.specs.Tables as law
 use Rattle.law.specs.Step as law_step
@@ -78,13 +77,9 @@ module _ (size : ℕ) (t : law.Talk) (p2 : ℕ) (s : Shape) where
   block_told 𝓢 c row x Discarded e n = never (sym (ap of_block e ∙ takes_block (repeats t p2 s)))
 
 -- A fetch that is not refused.
-fetch_heard : (t : law.Talk) (b : Bool) (h : Heard) → Ok h ≡ (fetches t b).0 → (h ≡ Gives) × (b ≡ true)
-fetch_heard t true h e = (cc, refl)
-fetch_heard t false h e = (cc, cc)
-
-fetch_stays : (t : law.Talk) (b : Bool) → (fetches t b).1 ≡ t
-fetch_stays t true = refl
-fetch_stays t false = refl
+fetch_heard : (t : law.Talk) (b : Bool) (h : Heard) → Ok h ≡ (fetches t b).0 → h ≡ Gives
+fetch_heard t true h e = cc
+fetch_heard t false h e = cc
 
 -- The size and the state of a started session.
 abbrev size_in : law.Session → ℕ
@@ -175,6 +170,15 @@ module _ (𝓢 : Sealing) {M : Type 0} (𝓐 : Acts M) (c : Core) (k : M) (row :
         → carries 𝓢 𝓐 (state_of c k) (law_step.fetches (core_of c) row n s (at c row)) ≡ told c k t
     fetch_refused n w t e b = tells_status 𝓢 𝓐 c k (law_step.fetches (core_of c) row n s (at c row)) w t (fetch_moves n (Err w) e) b
 
+    -- A fetch is heard: a block of the answer is given.
+    pub fetch_given : (n : ℕ) (h : Heard) (t : Told) → Ok h ≡ (heard size was fetch).0
+        → bytes_of t ≡ block_given row s (cut_block size (answer_in st.session.talk) n)
+        → carries 𝓢 𝓐 (state_of c k) (law_step.fetches (core_of c) row n s (at c row)) ≡ told c k t
+    fetch_given n h t e b =
+        ap carry (fetch_moves n (Ok h) e ∙ ap (λ (g : Heard). moved 𝓢 (core_of c) row x size was n s (Ok g)) (fetch_heard was (holds_talk was) h e))
+        ∙ ap (λ (w : List ℕ). done (core_of c) (answers_of c.tables) k (replied (block_given row s (cut_block size w n)))) (answer_held c.tables.connections row st.connection st.session q.held q.is)
+        ∙ ap (λ (zs : List ℕ). done (core_of c) (answers_of c.tables) k (replied zs)) (sym b)
+
     -- The session is y now.
     module _ (y : Session) where
       -- The block is joined.
@@ -191,26 +195,3 @@ module _ (𝓢 : Sealing) {M : Type 0} (𝓐 : Acts M) (c : Core) (k : M) (row :
         where
           by : ℕ → ℕ → law.Talk → Done M
           by r n u = carries 𝓢 𝓐 (state_of c k) (completes 𝓢 (core_of c) r x n (last_of u) (before u) (eqb p2 0))
-
-      -- A fetch is heard: a block of the answer is given.
-      pub fetch_given : (n : ℕ) (h : Heard) (t : Told) → Ok h ≡ (heard size was fetch).0 → session_of (Some y) ≡ law.started size (heard size was fetch).1
-          → answer_in y.talk ≡ cond (holds_talk (talk_of y.talk)) (answer_in st.session.talk) []
-          → bytes_of t ≡ block_given row s (cut_block y.container (answer_in y.talk) n)
-          → carries 𝓢 𝓐 (state_of c k) (law_step.fetches (core_of c) row n s (at c row)) ≡ told c k t
-      fetch_given n h t e a z b =
-          ap carry (fetch_moves n (Ok h) e ∙ ap (λ (g : Heard). moved 𝓢 (core_of c) row x size was n s (Ok g)) heard_so.0)
-          ∙ ap (λ (w : List ℕ). by size w) (answer_held c.tables.connections row st.connection st.session q.held q.is)
-          ∙ ap (λ (m : ℕ). by m (answer_in st.session.talk)) (sym (ap size_in a))
-          ∙ ap (by y.container) (sym stays)
-          ∙ ap (λ (zs : List ℕ). done (core_of c) (answers_of c.tables) k (replied zs)) (sym b)
-        where
-          heard_so : (h ≡ Gives) × (holds_talk was ≡ true)
-          heard_so = fetch_heard was (holds_talk was) h e
-
-          by : ℕ → List ℕ → Done M
-          by m w = done (core_of c) (answers_of c.tables) k (replied (block_given row s (cut_block m w n)))
-
-          stays : answer_in y.talk ≡ answer_in st.session.talk
-          stays =
-              z ∙ ap (λ (u : law.Talk). cond (holds_talk u) (answer_in st.session.talk) []) (ap talk_in a ∙ fetch_stays was (holds_talk was))
-              ∙ ap (λ (v : Bool). cond v (answer_in st.session.talk) []) heard_so.1

@@ -28,7 +28,7 @@ returns-in-Joined g c =
     let st = c.in-Some.started in
     record {
       step = block_joined g.S.Sealer.seals g.A.Application.acts p.core (g.A.Application.contents p.application) c.args.row (shape_of c.args.body)
-          st c.in-Some.ensures.some c.handle.new.self c.args.p2
+          st c.in-Some.ensures.some c.block.new.self c.args.p2
           (ended c.join.new.self.core (g.A.Application.contents c.join.new.self.application) c.join.result) (ap Ok (sym c.in-Joined.is) ∙ c.in-Ok.ensures.heard) c.in-Ok.ensures.after c.join.ensures.step;
       sealer = c.join.ensures.sealer;
     }

@@ -13,11 +13,11 @@ pub returns-in-Err : goal.returns-in-Err
 returns-in-Err g c =
     let p = c.args.self.now in
     fetch_refused g.S.Sealer.seals g.A.Application.acts p.core (g.A.Application.contents p.application) c.args.row (shape_of c.args.body)
-    c.in-Some.started c.in-Some.ensures.some c.args.number c.in-Err.status c.from-in-Err.result c.in-Err.ensures.heard c.from-in-Err.ensures
+    c.in-Some.started c.in-Some.ensures.some c.args.number c.in-Err.status c.from-in-Err.result c.in-Err.ensures c.from-in-Err.ensures
 
 pub returns : goal.returns
 returns g c =
     let p = c.args.self.now in
     fetch_given g.S.Sealer.seals g.A.Application.acts p.core (g.A.Application.contents p.application) c.args.row (shape_of c.args.body)
-    c.in-Some.started c.in-Some.ensures.some c.handle.new.self c.args.number c.in_default-handle.field-0 c.give.result
-    c.in_default-handle.ensures.heard c.in_default-handle.ensures.after c.in_default-handle.ensures.answer c.give.ensures
+    c.in-Some.started c.in-Some.ensures.some c.args.number c.in_default-fetch.field-0 c.give.result
+    c.in_default-fetch.ensures c.give.ensures
