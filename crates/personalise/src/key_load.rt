@@ -19,7 +19,7 @@ pub struct KeyLoad {
 }
 
 impl KeyLoad {
-    // The key with these limits, where all three are set.
+    // The key with these limits, where all three are set. They are no struct: the reader of a load hands them on here alone.
     pub(crate) fn limited(
         reference: Reference,
         key: [u8; 32],

@@ -4,7 +4,7 @@ ghost use Rattle.std.specs.Option.{option_map};
 ghost use Rattle.personalise.specs.Left.{left};
 ghost use Rattle.personalise.specs.Limits.{limit, Within};
 ghost use Rattle.personalise.specs.Lines.{ended, past, value};
-ghost use Rattle.personalise.specs.Load.{flag, hexed, keyed, loading};
+ghost use Rattle.personalise.specs.Load.{flag, hexed, loading};
 ghost use Rattle.personalise.specs.Says.{answered, ref_of, says};
 ghost use Rattle.personalise.specs.Written.{written, Good, LawOfLoads};
 
@@ -16,6 +16,7 @@ use crate::refusal::Refusal;
 use numerals::read_array;
 
 // The key that a text loads, or why it is refused. Any bytes may be given. No `TryFrom`: three facts are promised of it.
+#[tactic(auto, using(crate::proofs::Law::law_of_loads))]
 pub fn read(text: &[u8]) -> Result<KeyLoad, Refusal>
     ensures meaning { answered result ≡ loading text.now }
     ensures written { IfOk result (λ k. Good (says k) × (text.now ≡ written (says k))) }
@@ -25,34 +26,15 @@ pub fn read(text: &[u8]) -> Result<KeyLoad, Refusal>
         return Err(Refusal::Malformed);
     }
     let mut lines = Reader::new(text);
-    let reference = reference_line(&mut lines);
-    let key = key_line(&mut lines);
-    let weak = weak_line(&mut lines);
+    let reference = reference_line(&mut lines).ok_or(Refusal::Malformed)?;
+    let key = key_line(&mut lines).ok_or(Refusal::Malformed)?;
+    let weak = weak_line(&mut lines).ok_or(Refusal::Malformed)?;
     let masters = limit_line(&mut lines, b"masters=", u16::MAX as u64);
     let connections = limit_line(&mut lines, b"connections=", u32::MAX as u64);
     let transactions = limit_line(&mut lines, b"transactions=", u64::MAX);
     if !lines.is_done() {
         return Err(Refusal::Malformed);
     }
-    keyed(reference, key, weak, masters, connections, transactions)
-}
-
-// The key, where its first three lines are there in their form. The limits are no struct: they are handed on once.
-fn keyed(
-    reference: Option<Reference>,
-    key: Option<[u8; 32]>,
-    weak: Option<bool>,
-    masters: Result<u64, Refusal>,
-    connections: Result<u64, Refusal>,
-    transactions: Result<u64, Refusal>,
-) -> Result<KeyLoad, Refusal>
-    requires masters { Within 65535 masters }
-    requires connections { Within 4294967295 connections }
-    ensures { answered result ≡ keyed (option_map ref_of reference) key weak masters connections transactions }
-{
-    let reference = reference.ok_or(Refusal::Malformed)?;
-    let key = key.ok_or(Refusal::Malformed)?;
-    let weak = weak.ok_or(Refusal::Malformed)?;
     KeyLoad::limited(reference, key, weak, masters, connections, transactions)
 }
 
