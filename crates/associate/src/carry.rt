@@ -9,6 +9,7 @@ ghost use Rattle.associate.specs.Outcome.{outcome, done, sent};
 
 use crate::answer::{with_object, without_object};
 use crate::connection::establish_connection;
+use crate::lent::Lent;
 use crate::master::establish_master;
 use crate::start::start;
 use crate::terminate::terminate;
@@ -19,7 +20,7 @@ use request::Kind;
 use tables::Tables;
 
 // Carries out what the value of an object of this kind asks for, and answers the bytes of the reply, which are none for a
-// termination. What is left in the area is free.
+// termination. What is left in the area is free; it is a slice, since a host lends one of any length from 64 on.
 pub fn carry_out(
     tables: &mut Tables,
     kind: Kind,
@@ -35,7 +36,7 @@ pub fn carry_out(
     match kind {
         Kind::Discovery => Err(Status::WrongData),
         Kind::Master => carry_master(tables, value, random),
-        Kind::Connection => carry_connection(tables, value, random, area),
+        Kind::Connection => carry_connection(tables, value, Lent { random, area }),
         Kind::Start => carry_start(tables, value, area),
         Kind::Terminate => carry_end(tables, value, area),
     }
@@ -55,19 +56,14 @@ fn carry_master(tables: &mut Tables, value: &[u8], random: &[u8; 32]) -> Result<
 }
 
 // Establishes a connection, as an object asks.
-fn carry_connection(
-    tables: &mut Tables,
-    value: &[u8],
-    random: &[u8; 32],
-    area: &mut [u8; 64],
-) -> Result<Buffer, Status>
-    ensures outcome { outcome keyed (tables_of tables.old) random.now (asked_connection value.now) ≡ done (tables_of tables.new) (sent result) }
+fn carry_connection(tables: &mut Tables, value: &[u8], lent: Lent<'_>) -> Result<Buffer, Status>
+    ensures outcome { outcome keyed (tables_of tables.old) lent.entry.random.now (asked_connection value.now) ≡ done (tables_of tables.new) (sent result) }
     ensures answers { Keeps tables.old tables.new }
 {
     let Some(request) = ConnectionRequest::read(value) else {
         return Err(Status::WrongData);
     };
-    with_object(establish_connection(tables, &request, random, area))
+    with_object(establish_connection(tables, &request, lent))
 }
 
 // Starts a session, as an object asks.

@@ -1,6 +1,5 @@
-// The single checks of the associating commands.
+// The single checks of the associating commands: each passes or not, and a command says what it answers where one does not.
 ghost use Rattle.std.specs.Prelude.{◌≡◌, ◌<◌, OnSome};
-ghost use Rattle.std.specs.List.Sorted as slices;
 ghost use Rattle.law.specs.Rows.{found};
 ghost use Rattle.law.specs.Associations.{id_of};
 ghost use Rattle.tables.specs.View.{key_of, connection_of, tables_of};

@@ -8,6 +8,7 @@ ghost use Rattle.law.specs.Hashes.{keyed};
 ghost use Rattle.associate.specs.Said.{said, confirmed};
 
 use crate::derive::{new_connection, nonce};
+use crate::lent::Lent;
 use hmac::mac_joined;
 use objects::request::ConnectionRequest;
 use replies::reply::{ConnectionReply, Reply};
@@ -19,13 +20,13 @@ pub fn confirmed_connection(
     master: &At<Master>,
     suite: Suite,
     request: &ConnectionRequest<'_>,
-    random: &[u8; 32],
-    area: &mut [u8; 64],
+    lent: Lent<'_>,
 ) -> (Connection, Reply)
-    ensures connection { connection_of result.0 ≡ new_connection keyed random.now request.now.nonce.now suite (at_of master_of master.now) }
-    ensures reply { reply_object result.1 ≡ suite_reply keyed random.now request.now.master.now request.now.nonce.now request.now.ciphers request.now.mechanisms (at_of master_of master.now) (Some suite) }
+    ensures connection { connection_of result.0 ≡ new_connection keyed lent.entry.random.now request.now.nonce.now suite (at_of master_of master.now) }
+    ensures reply { reply_object result.1 ≡ suite_reply keyed lent.entry.random.now request.now.master.now request.now.nonce.now request.now.ciphers request.now.mechanisms (at_of master_of master.now) (Some suite) }
 {
-    let connection = new_connection(master, suite, random, request.nonce, area);
+    let random = lent.random;
+    let connection = new_connection(master, suite, request.nonce, lent);
     let reply = confirm(&connection, request, random);
     (connection, reply)
 }
@@ -44,7 +45,8 @@ fn confirm(connection: &Connection, request: &ConnectionRequest<'_>, random: &[u
     })
 }
 
-// The code over what both sides have said, under the connection's key.
+// The code over what both sides have said, under the connection's key. (A terminal makes the same in code of its own: each side
+// is written from the rules.)
 fn connection_mac(
     key: &[u8],
     request: &ConnectionRequest<'_>,

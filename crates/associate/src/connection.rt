@@ -7,6 +7,7 @@ ghost use Rattle.associate.specs.Steps.{connection_steps};
 
 use crate::check::{below, unused};
 use crate::confirm::confirmed_connection;
+use crate::lent::Lent;
 use crate::suite::common;
 use apdu::Status;
 use objects::request::ConnectionRequest;
@@ -18,10 +19,9 @@ use tables::{Connection, Master, Tables};
 pub fn establish_connection(
     tables: &mut Tables,
     request: &ConnectionRequest<'_>,
-    random: &[u8; 32],
-    area: &mut [u8; 64],
+    lent: Lent<'_>,
 ) -> Result<Reply, Status>
-    ensures steps { connection_steps keyed (tables_of tables.old) random.now request.now.master.now request.now.nonce.now request.now.ciphers request.now.mechanisms ≡ done (tables_of tables.new) (replied result) }
+    ensures steps { connection_steps keyed (tables_of tables.old) lent.entry.random.now request.now.master.now request.now.nonce.now request.now.ciphers request.now.mechanisms ≡ done (tables_of tables.new) (replied result) }
     ensures answers { Kept tables.old tables.new }
 {
     let id = request.master;
@@ -38,10 +38,10 @@ pub fn establish_connection(
     let Some(row) = tables.free::<Connection>() else {
         return Err(Status::NoRoom);
     };
-    let Some(()) = unused::<Connection>(tables, random) else {
+    let Some(()) = unused::<Connection>(tables, lent.random) else {
         return Err(Status::NotPossible);
     };
-    let (connection, reply) = confirmed_connection(&master, suite, request, random, area);
+    let (connection, reply) = confirmed_connection(&master, suite, request, lent);
     tables.enter_connection(master, row, connection);
     Ok(reply)
 }

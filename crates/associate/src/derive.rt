@@ -6,6 +6,7 @@ ghost use Rattle.law.specs.Hashes.{keyed};
 ghost use Rattle.tables.specs.View.{at_of, key_of, master_of, connection_of};
 ghost use Rattle.associate.specs.Said.{cut};
 
+use crate::lent::Lent;
 use hmac::{expand, mac};
 use sealing::Suite;
 use tables::{At, Connection, Key, Master};
@@ -50,12 +51,12 @@ fn material(master: &Master, random: &[u8; 32], nonce: &[u8; 16], area: &mut [u8
 pub fn new_connection(
     master: &At<Master>,
     suite: Suite,
-    random: &[u8; 32],
     nonce: &[u8; 16],
-    area: &mut [u8; 64],
+    lent: Lent<'_>,
 ) -> Connection
-    ensures { connection_of result ≡ new_connection keyed random.now nonce.now suite (at_of master_of master.now) }
+    ensures { connection_of result ≡ new_connection keyed lent.entry.random.now nonce.now suite (at_of master_of master.now) }
 {
+    let Lent { random, area } = lent;
     material(&master.item, random, nonce, area);
     unstarted(identifier(random), usize::from(master.row), suite, area)
 }

@@ -7,6 +7,7 @@ mod check;
 mod confirm;
 mod connection;
 mod derive;
+mod lent;
 mod mac;
 mod master;
 mod start;
@@ -15,3 +16,4 @@ mod terminate;
 
 pub use answer::object;
 pub use carry::carry_out;
+pub use lent::Lent;

@@ -14,19 +14,12 @@ ghost use Rattle.manage.specs.View.{core_of, pending_of, with_pending, refused_c
 use crate::card_core::Core;
 use crate::pending::{Gathered, Pending, Waiting};
 use apdu::{Body, Kind, Status};
-use associate::carry_out;
+use associate::{Lent, carry_out};
 use buffer::{Buffer, ROOM, Store};
 use objects::join::{Unread, read_object};
 
 // The most bytes of blocks that are joined: what a buffer holds, and one block more.
 const JOINED: usize = ROOM + 255;
-
-// What a command is lent: 32 random bytes, and 64 bytes to work in.
-#[derive(Drop)]
-struct Lent<'a> {
-    random: &'a [u8; 32],
-    area: &'a mut [u8; 64],
-}
 
 impl Core {
     // A refusal is counted where it is for a wrong MAC. Nothing is pending after it.

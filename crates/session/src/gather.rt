@@ -38,7 +38,7 @@ impl Part {
         u16::from(p2) + 1 == u16::from(self.last.p2)
     }
 
-    // Joins a block; refused, with a status word, it changes nothing.
+    // Joins a block. Each check leaves with its status word, in the order of the rules; refused, a block changes nothing.
     pub fn take(&mut self, container: u8, p2: u8, body: Body<'_>) -> Result<Heard, Status>
         ensures heard { result ≡ (heard container (talk_of (Gathering self.old)) (block p2 (shape_of body.entry))).0 }
         ensures after { talk_of (Gathering self.new) ≡ (heard container (talk_of (Gathering self.old)) (block p2 (shape_of body.entry))).1 }

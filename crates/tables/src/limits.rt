@@ -14,8 +14,8 @@ impl Tables {
             .map_or(0, |key| key.load.connections())
     }
 
-    // The row of the key that the master of this row rests on. Where the row holds none the rules, too, speak of row 0, so the
-    // two look-ups are no `and_then`.
+    // The row of the key that the master of this row rests on; 0 where the row holds none, as in the rules. (An `and_then` of the
+    // two look-ups would find no key there, and the rules take that of row 0.)
     fn key_row(&self, master: usize) -> usize
         ensures { result ≡ key_row (slice_index_or (tables_of self.now).masters master None) }
     {

@@ -13,7 +13,7 @@ pub returns-in_default : goal.returns-in_default
 returns-in_default c =
     let t = c.args.tables.now in
     record {
-      outcome = unreadable keyed (tables_of t) c.args.random.now (asked_connection c.args.value.now) (ap seen_connection (sym c.in_default.is) ∙ c.read.ensures.asks);
+      outcome = unreadable keyed (tables_of t) c.args.lent.random.now (asked_connection c.args.value.now) (ap seen_connection (sym c.in_default.is) ∙ c.read.ensures.asks);
       answers = all_kept t.connections;
     }
 
@@ -22,8 +22,8 @@ returns c =
     let t = c.args.tables.now in
     let q = c.in-Some.request in
     record {
-      outcome = carried keyed (tables_of t) c.args.random.now (asked_connection c.args.value.now) (seen_connection (Some q)) (connection_steps keyed (tables_of t) c.args.random.now q.master.now q.nonce.now q.ciphers q.mechanisms)
+      outcome = carried keyed (tables_of t) c.args.lent.random.now (asked_connection c.args.value.now) (seen_connection (Some q)) (connection_steps keyed (tables_of t) c.args.lent.random.now q.master.now q.nonce.now q.ciphers q.mechanisms)
           (tables_of c.establish_connection.new.tables) (replied c.establish_connection.result) (sent c.with_object.result)
-          c.in-Some.ensures.asks (connection_is keyed (tables_of t) c.args.random.now q.master.now q.nonce.now q.ciphers q.mechanisms) c.establish_connection.ensures.steps c.with_object.ensures;
+          c.in-Some.ensures.asks (connection_is keyed (tables_of t) c.args.lent.random.now q.master.now q.nonce.now q.ciphers q.mechanisms) c.establish_connection.ensures.steps c.with_object.ensures;
       answers = c.establish_connection.ensures.answers (all_kept t.connections);
     }
