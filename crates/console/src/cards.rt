@@ -50,7 +50,7 @@ fn run<S: Sealer + Copy + Drop, L: Application + Drop, R: Application + Drop>(
     })
 }
 
-// The same, with the applications by their names.
+// The same, with the applications by their names. Each pair of them has a type of its own, and so an arm.
 fn run_with<S: Sealer + Copy + Drop>(
     heap: Global,
     sealer: S,
@@ -70,10 +70,7 @@ fn run_with<S: Sealer + Copy + Drop>(
 
 // Runs a section of a script.
 pub fn run_section(heap: Global, section: &Section) -> Result<Answers, AllocError> {
-    let mut calls = Vec::new(heap);
-    for step in section.steps.iter() {
-        calls.push(call_of(step))?;
-    }
+    let calls: Vec<Call<'_>> = section.steps.iter().map(call_of).collect(heap)?;
     match section.setup.seals {
         Seals::Real => run_with(heap, RealSealer, section.setup, calls.as_slice()),
         Seals::Bench => run_with(heap, BenchSealer, section.setup, calls.as_slice()),

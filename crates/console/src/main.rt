@@ -30,10 +30,8 @@ fn answer_section(rt: &HostRuntime, section: &Section) -> anyhow::Result<()> {
 
 // Runs a script, and prints its answers. No card takes what comes before the first section.
 fn answer_script(rt: &HostRuntime, name: &str, text: &str) -> anyhow::Result<()> {
-    let script = match Script::read(rt.alloc(), text) {
-        Ok(script) => script,
-        Err(error) => return Err(anyhow!(format!(in rt.alloc(); "{name}: {error}")?)),
-    };
+    let script =
+        Script::read(rt.alloc(), text).map_err(|error| anyhow!("{name}: {error}"))?;
     for _ in script.before.iter() {
         println!(rt; "not taken")?;
     }

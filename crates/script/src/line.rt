@@ -4,7 +4,8 @@ use numerals::read_decimal;
 use show::unhex;
 use std::alloc::{AllocError, Global};
 
-// A command: the APDU, the random bytes, and how long the reply buffer and the work area are.
+// A command: the APDU, the random bytes, and how long the reply buffer and the work area are. This and `Step` own their
+// bytes, and are no calls of `pair`'s: a script is read without the cards.
 #[derive(Drop)]
 pub struct CommandLine {
     pub apdu: Vec<u8>,

@@ -48,6 +48,16 @@ impl fmt::Display for ScriptError {
     }
 }
 
+impl LineError {
+    // The script's error, where the line of this number has this one.
+    fn at(self, number: usize) -> ScriptError {
+        match self {
+            LineError::Unknown => ScriptError::Line(number),
+            LineError::Memory => ScriptError::Memory,
+        }
+    }
+}
+
 impl Script {
     // Adds a call to the last section, or to the calls before any.
     fn add(&mut self, step: Step) -> Result<(), ScriptError> {
@@ -65,15 +75,13 @@ impl Script {
             sections: Vec::new(heap),
         };
         for (i, line) in text.lines().enumerate() {
-            match Line::read(heap, line) {
-                Ok(Line::Nothing) => {}
-                Ok(Line::New(setup)) => script.sections.push(Section {
+            match Line::read(heap, line).map_err(|error| error.at(i.saturating_add(1)))? {
+                Line::Nothing => {}
+                Line::New(setup) => script.sections.push(Section {
                     setup,
                     steps: Vec::new(heap),
                 })?,
-                Ok(Line::Call(step)) => script.add(step)?,
-                Err(LineError::Unknown) => return Err(ScriptError::Line(i.saturating_add(1))),
-                Err(LineError::Memory) => return Err(ScriptError::Memory),
+                Line::Call(step) => script.add(step)?,
             }
         }
         Ok(script)
@@ -85,11 +93,11 @@ mod tests {
     use super::*;
     use std::test::Fail;
 
-    // The number of the line that is not understood; 0 where all are.
-    fn wrong_line(heap: Global, text: &str) -> usize {
+    // The number of the line that is not understood.
+    fn wrong_line(heap: Global, text: &str) -> Option<usize> {
         match Script::read(heap, text) {
-            Err(ScriptError::Line(number)) => number,
-            _ => 0,
+            Err(ScriptError::Line(number)) => Some(number),
+            _ => None,
         }
     }
 
@@ -109,11 +117,11 @@ mod tests {
     #[test]
     fn wrong_lines_are_numbered(rt: HostRuntime) {
         let heap = rt.alloc();
-        assert!(rt; wrong_line(heap, "# good\n\ncommand 00 - 258 64\noff") == 0);
-        assert!(rt; wrong_line(heap, "on\noff\nof\n") == 3);
-        assert!(rt; wrong_line(heap, "new fares cash open real") == 1);
-        assert!(rt; wrong_line(heap, "load 0a") == 1);
-        assert!(rt; wrong_line(heap, "on\ncommand 00 - 258 064") == 2);
-        assert!(rt; wrong_line(heap, "on now") == 1);
+        assert!(rt; wrong_line(heap, "# good\n\ncommand 00 - 258 64\noff") == None);
+        assert!(rt; wrong_line(heap, "on\noff\nof\n") == Some(3));
+        assert!(rt; wrong_line(heap, "new fares cash open real") == Some(1));
+        assert!(rt; wrong_line(heap, "load 0a") == Some(1));
+        assert!(rt; wrong_line(heap, "on\ncommand 00 - 258 064") == Some(2));
+        assert!(rt; wrong_line(heap, "on now") == Some(1));
     }
 }

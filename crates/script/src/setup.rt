@@ -31,6 +31,7 @@ pub struct Setup {
 #[derive(Clone, Copy, PartialEq, Eq, Debug)]
 pub struct NoSuchWord;
 
+// The words of `Kept` and of `Seals` are read alike; the words are all that either says.
 impl FromStr for Kept {
     type Err = NoSuchWord;
 

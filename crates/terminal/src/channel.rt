@@ -36,18 +36,23 @@ impl Connection {
             number: self.count,
             body,
         };
+        // The sealer takes lent room and gives a length, since the card's side has no heap.
         let mut out = [0; LONGEST];
         let len = sealer.seal(self.suite, &self.secrets.keys, text, &mut out);
         Vec::from_slice(heap, &out[0..len])
     }
 
-    // Opens in place what may be the answer to the command of this number.
-    fn opened<S: Sealer>(&self, sealer: &S, number: u64, string: &mut [u8]) -> Option<Opened>
-        ensures body { option_map (body_in string.new) result ≡ answer_in number (S.Sealer.seals.opened self.now.suite self.now.secrets.keys string.old) }
-        ensures within { IfSome result (λ o. o.at + o.len ≤ length string.new) }
+    // Opens in place what may be the answer to the command of this number, and gives its body.
+    fn opened<'a, S: Sealer>(
+        &self,
+        sealer: &S,
+        number: u64,
+        string: &'a mut [u8],
+    ) -> Option<&'a [u8]>
+        ensures { option_map (λ b. b.now) result ≡ answer_in number (S.Sealer.seals.opened self.now.suite self.now.secrets.keys string.old) }
     {
         let opened = sealer.open(self.suite, &self.secrets.keys, string)?;
-        answering(opened, number)
+        answering(opened, number)?.body(string)
     }
 
     // What the application replied to the command of this number, where the string is the sealing of its answer. The string
@@ -61,13 +66,9 @@ impl Connection {
     ) -> Result<Option<Vec<u8>>, AllocError>
         ensures { IfOk result (λ o. option_map vec_items o ≡ answer_in number (S.Sealer.seals.opened self.now.suite self.now.secrets.keys string.old)) }
     {
-        let Some(opened) = self.opened(sealer, number, string) else {
-            return Ok(None);
-        };
-        let at = opened.at;
-        let end = at + opened.len;
-        let body = Vec::from_slice(heap, &string[at..end])?;
-        Ok(Some(body))
+        self.opened(sealer, number, string)
+            .map(|body| Vec::from_slice(heap, body))
+            .transpose()
     }
 
     // The card has accepted the command: the next one has the next number.

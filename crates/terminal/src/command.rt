@@ -10,7 +10,8 @@ use std::alloc::{AllocError, Global};
 
 const MANAGE: u8 = 0x73;
 
-// A command with data alone.
+// A command with data alone. That it fits one length byte is a clause here and below, not a type: callers hold blocks, and
+// test the length once.
 pub fn with_data(heap: Global, ins: u8, p1: u8, p2: u8, data: &[u8]) -> Result<Vec<u8>, AllocError>
     requires { length «data».now ≤ 255 }
     ensures { IfOk result (λ v. v.items ≡ 0 ∷ ins ∷ p1 ∷ p2 ∷ length «data».now ∷ «data».now) }
@@ -19,7 +20,7 @@ pub fn with_data(heap: Global, ins: u8, p1: u8, p2: u8, data: &[u8]) -> Result<V
     with_bytes(header, data)
 }
 
-// The first block of an object. It and a next block are one call each, and differ in P2; a caller tests the length once.
+// The first block of an object. It and a next block are one call each, and differ in P2.
 pub fn first_block(heap: Global, kind: Kind, block: &[u8]) -> Result<Vec<u8>, AllocError>
     requires { length block.now ≤ 255 }
     ensures { IfOk result (λ v. v.items ≡ command_bytes (manage kind 0x80 (alone block.now))) }

@@ -30,10 +30,7 @@ impl Connection {
         let suite = Suite::try_from([reply.cipher, reply.mechanism]).ok()?;
         let secrets = derive(master.secret(), &reply.nonce, &offer.nonce);
         let mac = agreement_mac(&secrets.mac, master.id(), offer, reply);
-        if !same(&mac, &reply.mac) {
-            return None;
-        }
-        Some(Connection {
+        same(&mac, &reply.mac).then_some(Connection {
             id: reply.id,
             suite,
             secrets,

@@ -13,7 +13,7 @@ use std::alloc::{AllocError, Global};
 // The key mechanism that a terminal has, and the only one there is.
 const SHARED_KEYS: u8 = 0x01;
 
-// Asks for a master under the key of this reference.
+// Asks for a master under the key of this reference. Its bound is a clause: no other value here is a slice.
 pub fn master_object(heap: Global, reference: &[u8]) -> Result<Vec<u8>, AllocError>
     requires { length reference.now ≤ 68 }
     ensures { IfOk result (λ v. v.items ≡ tagged 0x73 (tagged 0x81 reference.now ++ tagged 0x82 (0x01 ∷ []))) }
@@ -52,20 +52,35 @@ pub fn start_object(
     wrapped(heap, inside.as_slice())
 }
 
+// Asks to terminate what an object of this tag names.
+fn end_object(
+    heap: Global,
+    tag: u8,
+    id: &[u8; 16],
+    mac: &[u8; 16],
+) -> Result<Vec<u8>, AllocError>
+    ensures { IfOk result (λ v. v.items ≡ tagged 0x73 (tagged tag id.now ++ tagged 0x8E mac.now)) }
+{
+    let inside = with_object(Vec::new(heap), tag, id)?;
+    let inside = with_object(inside, tag::END_MAC, mac)?;
+    wrapped(heap, inside.as_slice())
+}
+
 // Asks to terminate a master.
 pub fn master_end_object(heap: Global, master: &Master) -> Result<Vec<u8>, AllocError>
     ensures { IfOk result (λ v. v.items ≡ tagged 0x73 (tagged 0x83 master.now.id ++ tagged 0x8E (mac_of master.now.secret master.now.id))) }
 {
-    let inside = with_object(Vec::new(heap), tag::MASTER, master.id())?;
-    let inside = with_object(inside, tag::END_MAC, &master.end_mac())?;
-    wrapped(heap, inside.as_slice())
+    end_object(heap, tag::MASTER, master.id(), &master.end_mac())
 }
 
 // Asks to terminate a connection.
 pub fn connection_end_object(heap: Global, connection: &Connection) -> Result<Vec<u8>, AllocError>
     ensures { IfOk result (λ v. v.items ≡ tagged 0x73 (tagged 0x88 connection.now.id ++ tagged 0x8E (mac_of connection.now.secrets.mac connection.now.id))) }
 {
-    let inside = with_object(Vec::new(heap), tag::CONNECTION, connection.id())?;
-    let inside = with_object(inside, tag::END_MAC, &connection.end_mac())?;
-    wrapped(heap, inside.as_slice())
+    end_object(
+        heap,
+        tag::CONNECTION,
+        connection.id(),
+        &connection.end_mac(),
+    )
 }

@@ -1,7 +1,7 @@
 // A started session: a sealed string goes out in blocks, and its answer comes back in blocks.
-ghost use Rattle.std.specs.Prelude.{◌≡◌, ◌+◌, ◌%◌, IfOk, vec_items};
+ghost use Rattle.std.specs.Prelude.{◌≡◌, ◌+◌, ◌%◌, ◌≤◌, length, IfSome, IfOk, vec_items};
 ghost use Rattle.std.specs.Option.{option_map};
-ghost use Rattle.apdu.specs.Command.{bare, le};
+ghost use Rattle.apdu.specs.Command.{bare, le, alone};
 ghost use Rattle.apdu.specs.Writing.{command_bytes};
 ghost use Rattle.terminal.specs.Commands.{transact};
 ghost use Rattle.terminal.specs.Cut.{behind, following, block_command};
@@ -37,7 +37,17 @@ impl Session {
         left(block_count(string, self.container), usize::from(number) + 1)
     }
 
-    // The command that carries the block of this number, counted from 0, of a sealed string.
+    // The block of this number, counted from 0, of a sealed string, and how many follow it.
+    fn part(self, string: &[u8], number: u8) -> Option<(u8, &[u8])>
+        ensures command { option_map (λ p. command_bytes (transact self.byte p.0 (alone p.1.now))) result ≡ block_command self.byte self.container string.now number }
+        ensures short { IfSome result (λ p. length p.1.now ≤ 255) }
+    {
+        let p2 = self.following(string, number)?;
+        let block = answer_block(string, self.container, number)?;
+        Some((p2, block.bytes))
+    }
+
+    // The command that carries the block of this number.
     pub fn block(
         self,
         heap: Global,
@@ -46,14 +56,9 @@ impl Session {
     ) -> Result<Option<Vec<u8>>, AllocError>
         ensures { IfOk result (λ o. option_map vec_items o ≡ block_command self.byte self.container string.now number) }
     {
-        let Some(p2) = self.following(string, number) else {
-            return Ok(None);
-        };
-        let Some(block) = answer_block(string, self.container, number) else {
-            return Ok(None);
-        };
-        let command = with_data(heap, TRANSACT, self.byte, p2, block.bytes)?;
-        Ok(Some(command))
+        self.part(string, number)
+            .map(|(p2, block)| with_data(heap, TRANSACT, self.byte, p2, block))
+            .transpose()
     }
 
     // The command that fetches the answer's block of this number, counted from 0.
