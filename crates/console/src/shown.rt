@@ -62,7 +62,7 @@ impl fmt::Display for Side<'_> {
 }
 
 // The answer line of a call: a word, or both answers where they are more than a word or differ. Left and right
-// stand by name: two questions alone are asked of both, and an array of two would be longer.
+// have a name each: only two questions are asked of both, and an array of two would be longer.
 #[derive(Clone, Copy)]
 pub struct AnswerLine<'a> {
     pub step: &'a Step,

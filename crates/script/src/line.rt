@@ -5,7 +5,7 @@ use show::unhex;
 use std::alloc::{AllocError, Global};
 
 // A command: the APDU, the random bytes, and how long the reply buffer and the work area are. This and `Step` own their
-// bytes, and are no calls of `pair`'s: a script is read without the cards.
+// bytes, where `pair`'s calls borrow them, and are types of their own: a script is read without the cards.
 #[derive(Drop)]
 pub struct CommandLine {
     pub apdu: Vec<u8>,

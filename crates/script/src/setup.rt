@@ -31,7 +31,7 @@ pub struct Setup {
 #[derive(Clone, Copy, PartialEq, Eq, Debug)]
 pub struct NoSuchWord;
 
-// The words of `Kept` and of `Seals` are read alike; the words are all that either says.
+// `Kept` and `Seals` are read alike: what each says is its words alone.
 impl FromStr for Kept {
     type Err = NoSuchWord;
 

@@ -1,3 +1,1 @@
-mod Short
-mod Opening
 mod Fields

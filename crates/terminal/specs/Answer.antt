@@ -1,6 +1,5 @@
 -- What a terminal takes for the answer to its command.
-use Rattle.std.specs.Prelude.{ℕ, Bool, true, false, cond, ◌&&◌, List, take, drop, Some, None, Option, ◌==◌}
-use Rattle.sealing.specs.declared.sealer.Opened.{Opened}
+use Rattle.std.specs.Prelude.{ℕ, Bool, true, false, cond, ◌&&◌, List, Some, None, Option, ◌==◌}
 use Rattle.sealing.specs.declared.suite.Direction.{Direction}
 use Rattle.sealing.specs.declared.suite.Direction.TheVariants.{Command, Reply}
 use Rattle.sealing.specs.Sealing.{Text}
@@ -13,7 +12,3 @@ is_reply Reply = true
 abbrev pub answer_in : ℕ → Option Text → Option (List ℕ)
 answer_in n None = None
 answer_in n (Some t) = cond (is_reply t.direction && t.number == n) (Some t.body) None
-
--- The body that an opened text has in a buffer.
-abbrev pub body_in : List ℕ → Opened → List ℕ
-body_in buffer o = take o.len (drop o.at buffer)

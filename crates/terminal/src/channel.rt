@@ -3,7 +3,7 @@ ghost use Rattle.std.specs.Prelude.{◌≡◌, ◌+◌, ◌%◌, ◌^◌, ◌≤
 ghost use Rattle.std.specs.Option.{option_map};
 ghost use Rattle.sealing.specs.Sealing.{text};
 ghost use Rattle.sealing.specs.declared.suite.Direction.TheVariants.{Command};
-ghost use Rattle.terminal.specs.Answer.{is_reply, answer_in, body_in};
+ghost use Rattle.terminal.specs.Answer.{is_reply, answer_in};
 
 use crate::connection::Connection;
 use sealing::{Direction, Opened, Sealer, Text};
@@ -36,7 +36,7 @@ impl Connection {
             number: self.count,
             body,
         };
-        // The sealer takes lent room and gives a length, since the card's side has no heap.
+        // A sealer writes into lent room and gives the length, since the card has no heap.
         let mut out = [0; LONGEST];
         let len = sealer.seal(self.suite, &self.secrets.keys, text, &mut out);
         Vec::from_slice(heap, &out[0..len])

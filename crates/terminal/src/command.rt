@@ -10,8 +10,8 @@ use std::alloc::{AllocError, Global};
 
 const MANAGE: u8 = 0x73;
 
-// A command with data alone. That it fits one length byte is a clause here and below, not a type: callers hold blocks, and
-// test the length once.
+// A command with data alone. The bound stays a clause, here and below: a caller tests a block's length once, and would make a
+// type for it at that place alone.
 pub fn with_data(heap: Global, ins: u8, p1: u8, p2: u8, data: &[u8]) -> Result<Vec<u8>, AllocError>
     requires { length «data».now ≤ 255 }
     ensures { IfOk result (λ v. v.items ≡ 0 ∷ ins ∷ p1 ∷ p2 ∷ length «data».now ∷ «data».now) }

@@ -28,7 +28,7 @@ pub fn start_mac(key: &[u8], id: &[u8], container: u8) -> [u8; 16]
 }
 
 // The MAC over all that both sides said of a connection. The card joins the same parts in code of its own: the two sides are
-// written apart, and each is held to the law.
+// written apart, so that a slip of one shows at the other.
 pub fn agreement_mac<'a>(
     key: &[u8],
     master: &'a [u8],

@@ -15,7 +15,8 @@ pub fn with_bytes(bytes: Vec<u8>, part: &[u8]) -> Result<Vec<u8>, AllocError>
     Ok(all)
 }
 
-// The bytes with one more object behind them, on the heap; the card writes its objects into fixed memory. The bound stays a clause: nearly every value is an array, whose length is known.
+// The bytes with one more object behind them, on the heap: the card writes its own into fixed memory. The bound stays a
+// clause: nearly every value is an array, whose length is known.
 pub fn with_object(bytes: Vec<u8>, tag: u8, value: &[u8]) -> Result<Vec<u8>, AllocError>
     requires { length value.now < 256 }
     ensures bytes { IfOk result (λ v. v.items ≡ bytes.items ++ tagged tag value.now) }

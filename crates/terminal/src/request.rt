@@ -13,7 +13,7 @@ use std::alloc::{AllocError, Global};
 // The key mechanism that a terminal has, and the only one there is.
 const SHARED_KEYS: u8 = 0x01;
 
-// Asks for a master under the key of this reference. Its bound is a clause: no other value here is a slice.
+// Asks for a master under the key of this reference. Its bound is a clause here: all other values are arrays.
 pub fn master_object(heap: Global, reference: &[u8]) -> Result<Vec<u8>, AllocError>
     requires { length reference.now ≤ 68 }
     ensures { IfOk result (λ v. v.items ≡ tagged 0x73 (tagged 0x81 reference.now ++ tagged 0x82 (0x01 ∷ []))) }
@@ -53,12 +53,7 @@ pub fn start_object(
 }
 
 // Asks to terminate what an object of this tag names.
-fn end_object(
-    heap: Global,
-    tag: u8,
-    id: &[u8; 16],
-    mac: &[u8; 16],
-) -> Result<Vec<u8>, AllocError>
+fn end_object(heap: Global, tag: u8, id: &[u8; 16], mac: &[u8; 16]) -> Result<Vec<u8>, AllocError>
     ensures { IfOk result (λ v. v.items ≡ tagged 0x73 (tagged tag id.now ++ tagged 0x8E mac.now)) }
 {
     let inside = with_object(Vec::new(heap), tag, id)?;

@@ -1,4 +1,4 @@
-use Rattle.std.proofs.Common.{◌≡◌, MatchOption, get_or, length, take, drop, ap, sym, ◌∙◌, subst, rules}
+use Rattle.std.proofs.Common.{◌≡◌, MatchOption, get_or, take, drop, ap, sym, ◌∙◌, subst, rules}
 use Rattle.replies.specs.Reply.{reply_object}
 use Rattle.replies.specs.declared.reply.ConnectionReply.{ConnectionReply}
 use Rattle.replies.specs.declared.reply.Reply.TheVariants.{Connection}

@@ -1,4 +1,4 @@
-use Rattle.std.proofs.Common.{◌≡◌, MatchOption, length, take, drop, ap, sym, ◌∙◌, subst, rules}
+use Rattle.std.proofs.Common.{◌≡◌, MatchOption, take, drop, ap, sym, ◌∙◌, subst, rules}
 use Rattle.replies.specs.Reply.{reply_object}
 use Rattle.replies.specs.declared.reply.MasterReply.{MasterReply}
 use Rattle.replies.specs.declared.reply.Reply.TheVariants.{Master}
