@@ -30,8 +30,7 @@ fn answer_section(rt: &HostRuntime, section: &Section) -> anyhow::Result<()> {
 
 // Runs a script, and prints its answers. No card takes what comes before the first section.
 fn answer_script(rt: &HostRuntime, name: &str, text: &str) -> anyhow::Result<()> {
-    let script =
-        Script::read(rt.alloc(), text).map_err(|error| anyhow!("{name}: {error}"))?;
+    let script = Script::read(rt.alloc(), text).map_err(|error| anyhow!("{name}: {error}"))?;
     for _ in script.before.iter() {
         println!(rt; "not taken")?;
     }
