@@ -6,3 +6,4 @@ pub mod Schedule
 pub mod Examples
 pub mod Permutation
 pub mod Chunks
+pub mod Mapped

@@ -72,6 +72,8 @@ fn replaced<F: Fn(u8) -> u8>(columns: [u32; 4], put: F) -> u32
     ])
 }
 
+// The look-ups below go in by closures: the name alone of another crate's function brings no contract with it.
+
 // SubBytes and MixColumns of the column that takes a row from each of four.
 pub fn sub_mixed(columns: [u32; 4]) -> u32
     ensures { octets 4 result ≡ mix_columns (sub_bytes (gathered columns)) }

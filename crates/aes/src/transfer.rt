@@ -6,23 +6,18 @@ ghost use Rattle.aes.specs.Columns.{state_bytes};
 use crate::state::State;
 
 // The word of four bytes.
-fn word(bytes: &[u8; 4]) -> u32
-    ensures { octets 4 result ≡ bytes.now }
+fn word(bytes: [u8; 4]) -> u32
+    ensures { octets 4 result ≡ bytes }
 {
-    u32::from_be_bytes(*bytes)
+    u32::from_be_bytes(bytes)
 }
 
 // The state that the block makes.
 pub fn state_of(block: &[u8; 16]) -> State
     ensures { state_bytes result ≡ block.now }
 {
-    let columns = block.as_chunks::<4>().0;
-    State([
-        word(&columns[0]),
-        word(&columns[1]),
-        word(&columns[2]),
-        word(&columns[3]),
-    ])
+    let columns: &[[u8; 4]; 4] = block.as_chunks::<4>().0.as_array().unwrap();
+    State(columns.map(word))
 }
 
 // Writes the state into the block, by four ranges: `as_chunks_mut` promises nothing of what the block ends as, and one copy of

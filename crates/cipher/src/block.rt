@@ -17,7 +17,7 @@ pub trait BlockCipher {
     fn block_len() -> usize
         ensures { result ≡ size };
 
-    // Encrypts the block in place. It is a slice: no array in Rust has a length that a type parameter's constant gives.
+    // Encrypts the block in place: a slice, as a type parameter's constant gives no array its length.
     fn encrypt(&self, block: &mut [u8])
         requires { length block.old ≡ size }
         ensures { block.new ≡ enc self.now block.old };

@@ -17,7 +17,7 @@ pub trait Integrity {
     fn tag_len() -> usize
         ensures { result ≡ size };
 
-    // Writes the check of the message into `out`.
+    // Writes the check of the message into `out`: a slice, as a type parameter's constant gives no array its length.
     fn write_check(&self, message: &[u8], out: &mut [u8])
         requires { length out.old ≡ size }
         ensures { out.new ≡ check self.now message.now };
