@@ -1,6 +1,6 @@
 // What a vector can be run on.
 use crate::fault::Fault;
-use numerals::read_hexadecimal;
+use numerals::read_array;
 use sealing::Suite;
 use std::str::FromStr;
 
@@ -68,7 +68,6 @@ fn sealed(name: &str) -> Option<Algorithm> {
 }
 
 fn suite_of(text: &str) -> Option<Suite> {
-    let mut bytes = [0u8; 2];
-    read_hexadecimal(text.as_bytes(), &mut bytes)?;
+    let bytes: [u8; 2] = read_array(text.as_bytes())?;
     Suite::try_from(bytes).ok()
 }
