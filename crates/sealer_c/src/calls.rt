@@ -15,7 +15,8 @@ fn number_of(written: Result<usize, Refusal>) -> usize
     written.unwrap_or_else(usize::from)
 }
 
-// Seals a text, where what is asked for is known and fits.
+// Seals a text, where what is asked for is known and fits. Suite and keys are read as in `opened`: one function for the two
+// lines would answer a pair of them, and be longer.
 fn sealed(
     cipher: u8,
     mechanism: u8,
@@ -28,9 +29,7 @@ fn sealed(
     ensures { Writes (sealing cipher mechanism keys.now direction number body.now (length out.old)) out.old out.new result }
 {
     let suite = Suite::try_from([cipher, mechanism])?;
-    let Some(keys) = keys_of(keys) else {
-        return Err(Refusal::Unfit);
-    };
+    let keys = keys_of(keys).ok_or(Refusal::Unfit)?;
     let direction = Direction::try_from(direction)?;
     if !is_body(body) || !is_roomy(out) {
         return Err(Refusal::Unfit);
@@ -54,9 +53,7 @@ fn opened(
     ensures { Writes (opening cipher mechanism keys.now string.now (length out.old)) out.old out.new result }
 {
     let suite = Suite::try_from([cipher, mechanism])?;
-    let Some(keys) = keys_of(keys) else {
-        return Err(Refusal::Unfit);
-    };
+    let keys = keys_of(keys).ok_or(Refusal::Unfit)?;
     if !is_roomy(out) {
         return Err(Refusal::Unfit);
     }

@@ -32,17 +32,13 @@ pub fn open_text(
     ensures { Writes (opened_as (real.opened suite keys.now string.now)) out.old out.new result }
 {
     let mut work = [0u8; 288];
-    let Some(copy) = work.get_mut(..string.len()) else {
-        return Err(Refusal::Shut);
-    };
+    let copy = work.get_mut(..string.len()).ok_or(Refusal::Shut)?;
     copy.copy_from_slice(string);
-    let Some(opened) = RealSealer.open(suite, keys, copy) else {
-        return Err(Refusal::Shut);
-    };
+    let opened = RealSealer.open(suite, keys, copy).ok_or(Refusal::Shut)?;
     let text = Text {
         direction: opened.direction,
         number: opened.number,
-        body: &copy[opened.at..opened.at + opened.len],
+        body: opened.body(copy).unwrap(),
     };
     Ok(put_plain(text, out))
 }
