@@ -1,5 +1,5 @@
 // Reading the text that a frame holds.
-ghost use Rattle.std.specs.Prelude.{◌≡◌, ◌+◌, ◌<◌, ◌≤◌, length, take, drop};
+ghost use Rattle.std.specs.Prelude.{◌≡◌, ◌+◌, ◌<◌, ◌≤◌, length, take, drop, if◌then◌else◌, Some, None};
 ghost use Rattle.std.specs.Str.{bytes_eq};
 ghost use Rattle.byte_lists.specs.Numbers.{number};
 ghost use Rattle.frame.specs.Frame.{blank, framed, missing, stated, text_of, told};
@@ -47,27 +47,28 @@ fn is_checked<I: Integrity>(mechanism: &I, frame: &[u8], end: usize) -> bool
     ensures { result ≡ bytes_eq (I.check mechanism.now (take end frame.now)) (take I.size (drop end frame.now)) }
 {
     let tag = I::tag_len();
+    // In fixed memory: no check has more than 16 bytes.
     let mut expected = [0u8; 16];
     mechanism.write_check(&frame[0..end], &mut expected[0..tag]);
     same(&expected[0..tag], &frame[end..end + tag])
 }
 
-// Whether bytes are laid out as a frame.
-fn is_framed<I: Integrity>(mechanism: &I, block: usize, frame: &[u8]) -> bool
+// The body's length that bytes state, where they are laid out as a frame.
+fn body_len<I: Integrity>(mechanism: &I, block: usize, frame: &[u8]) -> Option<usize>
     requires { (1 ≤ block) × (block ≤ 16) }
-    ensures { result ≡ framed block I.size (I.check mechanism.now) frame.now }
+    ensures { result ≡ (if framed block I.size (I.check mechanism.now) frame.now then Some (stated frame.now) else None) }
 {
     if frame.len() < 11 {
-        return false;
+        return None;
     }
     let len = stated_len(frame);
     let end = 11 + len;
     let tag = I::tag_len();
-    2 <= len
-        && len <= 261
+    let framed = (2..=261).contains(&len)
         && frame.len() == in_blocks(end + tag, block)
         && is_checked(mechanism, frame, end)
-        && is_blank(&frame[end + tag..])
+        && is_blank(&frame[end + tag..]);
+    framed.then_some(len)
 }
 
 // The text that a frame holds, where the bytes are one: its head, and where its body stands.
@@ -75,14 +76,12 @@ pub fn read_frame<I: Integrity>(mechanism: &I, block: usize, frame: &[u8]) -> Op
     requires { (1 ≤ block) × (block ≤ 16) }
     ensures { result ≡ told (text_of block I.size (I.check mechanism.now) frame.now) }
 {
-    if !is_framed(mechanism, block, frame) {
-        return None;
-    }
+    let len = body_len(mechanism, block, frame)?;
     let direction = Direction::try_from(frame[0]).ok()?;
     Some(Opened {
         direction,
         number: stated_number(frame),
         at: 11,
-        len: stated_len(frame),
+        len,
     })
 }

@@ -32,19 +32,17 @@ fn put_check<I: Integrity>(mechanism: &I, out: &mut [u8], end: usize) -> usize
     ensures bytes { out.new ≡ take end out.old ++ (I.check mechanism.now (take end out.old) ++ drop (end + I.size) out.old) }
 {
     let tag = I::tag_len();
-    let mut value = [0u8; 16];
-    mechanism.write_check(&out[0..end], &mut value[0..tag]);
-    put(out, end, &value[0..tag]);
+    let (front, behind) = out.split_at_mut(end);
+    mechanism.write_check(front, &mut behind[..tag]);
     end + tag
 }
 
 // Writes so many zeros from the byte `at` on.
 fn put_zeros(out: &mut [u8], at: usize, count: usize)
-    requires few { count ≤ 16 }
-    requires room { at + count ≤ length out.old }
+    requires { at + count ≤ length out.old }
     ensures { out.new ≡ take at out.old ++ (replicate count 0 ++ drop (at + count) out.old) }
 {
-    put(out, at, &[0u8; 16][0..count]);
+    out[at..at + count].fill(0);
 }
 
 // Not a `sealing::Text`: that has two bytes of body at least, and a frame needs none, so the type would ask more of callers.
