@@ -1,12 +1,12 @@
 -- The words of a block and of its schedule, and the rounds over its parts of eight words.
-use Rattle.std.proofs.Common.{◌≡◌, ℕ, zero, suc, ◌+◌, ◌-◌, ◌*◌, ◌<◌, ◌≤◌, List, [], ◌∷◌, ◌++◌, length, get_or, take, drop, set, sym, refl, ap, ◌∙◌, add-one, arith}
+use Rattle.std.proofs.Common.{◌≡◌, ℕ, zero, suc, ◌+◌, ◌-◌, ◌*◌, ◌<◌, ◌≤◌, List, [], ◌∷◌, ◌++◌, length, get_or, take, drop, set, sym, refl, ap, ◌∙◌, add-one, arith, length-take, length-drop}
 use Rattle.std.specs.List.{fold, zip}
 use Rattle.std.specs.Int.{from_be_bytes, w32}
 use Rattle.std.specs.Simd.{first_chunks}
 use Rattle.std.proofs.lemmas.List.{take_more_set, get_or-take, get_or-drop, drop-drop}
 use Rattle.compression.specs.declared.letters.Eight.{Eight}
 use Rattle.compression.specs.Constants.{constants}
-use Rattle.compression.specs.Compression.{word, words, scheduled, extended, round_of, rounds_with, rounds}
+use Rattle.compression.specs.Compression.{word, words, scheduled, extended, round_of, rounds_with, rounds_by, rounds}
 
 -- The chunk i of a list.
 pub chunk_at : (n k : ℕ) (xs : List ℕ) (i : ℕ) → i < k → get_or (first_chunks n k xs) i [] ≡ take n (drop (n * i) xs)
@@ -83,17 +83,31 @@ rounds_add a (suc b) ks ws v =
     cc (get_or-drop a ks b 0, get_or-drop a ws b 0, rounds_add a b ks ws v) in
     more ∙ sym (ap (λ n. rounds_with n ks ws v) e)
 
--- Eight rounds with the constants and the words of a part.
+-- Rounds with the constants and the words of a part.
 abbrev pub part : Eight → List ℕ × List ℕ → Eight
-part v p = rounds_with 8 p.0 p.1 v
+part v p = rounds_by p.0 p.1 v
 
-rounds_parts : (m : ℕ) (ks ws : List ℕ) (v : Eight) → fold part v (zip (first_chunks 8 m ks) (first_chunks 8 m ws)) ≡ rounds_with (8 * m) ks ws v
+-- The rounds from the front are the first ones by number.
+by_number : (ks ws : List ℕ) (v : Eight) → length ws ≡ length ks → rounds_by ks ws v ≡ rounds_with (length ks) ks ws v
 unfolding rounds_with
-rounds_parts zero ks ws v = refl
-rounds_parts (suc m) ks ws v =
+by_number [] ws v e = refl
+by_number (k ∷ ks) [] v e = absurd (omega (arith, e))
+by_number (k ∷ ks) (w ∷ ws) v e =
+    let n : 1 + length ks ≡ suc (length ks) = omega arith in
+    by_number ks ws (round_of k w v) (omega (arith, e)) ∙ rounds_add 1 (length ks) (k ∷ ks) (w ∷ ws) v ∙ ap (λ j. rounds_with j (k ∷ ks) (w ∷ ws) v) n
+
+rounds_parts : (m : ℕ) (ks ws : List ℕ) (v : Eight) → length ks ≡ 8 * m → length ws ≡ 8 * m → fold part v (zip (first_chunks 8 m ks) (first_chunks 8 m ws)) ≡ rounds_with (8 * m) ks ws v
+unfolding rounds_with
+rounds_parts zero ks ws v ek ew = refl
+rounds_parts (suc m) ks ws v ek ew =
     let e : 8 + 8 * m ≡ 8 * suc m = omega arith in
-    rounds_parts m (drop 8 ks) (drop 8 ws) (rounds_with 8 (take 8 ks) (take 8 ws) v) ∙ rounds_add 8 (8 * m) ks ws v ∙ ap (λ n. rounds_with n ks ws v) e
+    let lk : length (take 8 ks) ≡ 8 = simp length-take (omega (arith, ek)) in
+    let lw : length (take 8 ws) ≡ 8 = simp length-take (omega (arith, ew)) in
+    let first : part v (take 8 ks, take 8 ws) ≡ rounds_with 8 (take 8 ks) (take 8 ws) v = by_number (take 8 ks) (take 8 ws) v (lw ∙ sym lk) ∙ ap (λ n. rounds_with n (take 8 ks) (take 8 ws) v) lk in
+    rounds_parts m (drop 8 ks) (drop 8 ws) (part v (take 8 ks, take 8 ws)) (simp length-drop (omega (arith, ek))) (simp length-drop (omega (arith, ew)))
+    ∙ ap (rounds_with (8 * m) (drop 8 ks) (drop 8 ws)) first ∙ rounds_add 8 (8 * m) ks ws v ∙ ap (λ n. rounds_with n ks ws v) e
 
 -- The 64 rounds, by their parts.
-pub rounds_all : (w : List ℕ) (v : Eight) → fold part v (zip (first_chunks 8 8 constants) (first_chunks 8 8 w)) ≡ rounds 64 w v
-rounds_all w v = rounds_parts 8 constants w v ∙ rounds_are 64 w v
+pub rounds_all : (w : List ℕ) (v : Eight) → length w ≡ 64 → fold part v (zip (first_chunks 8 8 constants) (first_chunks 8 8 w)) ≡ rounds 64 w v
+unfolding constants
+rounds_all w v l = rounds_parts 8 constants w v refl l ∙ rounds_are 64 w v

@@ -1,5 +1,6 @@
 -- The compression of SHA-256: one block of 64 bytes into eight words (FIPS 180-2, 6.2.2).
 use Rattle.std.specs.Prelude.{ℕ, zero, suc, ◌+◌, ◌-◌, ◌*◌, List, [], ◌∷◌, ◌++◌, slice_index}
+use Rattle.std.specs.List.{fold, zip}
 use Rattle.compression.specs.declared.letters.Eight.{Eight}
 use Rattle.compression.specs.Words.{plus, ch, maj, Σ0, Σ1, σ0, σ1}
 use Rattle.compression.specs.Constants.{constants, beginnings}
@@ -42,6 +43,10 @@ round_of k w v = record { a = plus (first_sum k w v) (second_sum v); b = v.a; c 
 unfoldable pub rounds_with : ℕ → List ℕ → List ℕ → Eight → Eight
 rounds_with zero ks ws v = v
 rounds_with (suc t) ks ws v = round_of (slice_index ks t) (slice_index ws t) (rounds_with t ks ws v)
+
+-- The rounds with these constants and these words, from the front.
+abbrev pub rounds_by : List ℕ → List ℕ → Eight → Eight
+rounds_by ks ws v = fold (λ x p. round_of p.0 p.1 x) v (zip ks ws)
 
 -- The first n rounds over the schedule w.
 unfoldable pub rounds : ℕ → List ℕ → Eight → Eight

@@ -1,12 +1,14 @@
 // One block into eight words.
 ghost use Rattle.std.specs.Prelude.{◌≡◌, ◌<◌, ◌≤◌, take};
 ghost use Rattle.std.specs.List.{fold, zip};
-ghost use Rattle.compression.specs.Compression.{words as parsed, scheduled, extended, first_sum, second_sum, round_of, rounds_with, rounds as turned, sums as added, compressed};
+ghost use Rattle.compression.specs.Compression.{words as parsed, scheduled, extended, first_sum, second_sum, round_of, rounds_by, rounds as turned, sums as added, compressed};
 
 use crate::letters::Eight;
 use crate::tables::constants;
 use crate::words::{choose, lower_one, lower_zero, majority, upper_one, upper_zero};
-// Writes the sixteen words of a block to the front of a schedule, each of four bytes with the highest first.
+
+// Writes the sixteen words of a block to the front of a schedule, each of four bytes with the highest first. By their places:
+// mapped as an array and copied, they cost a quarter more time, and of a `zip` with `iter_mut` no proof knows what it leaves.
 fn parse(block: &[u8; 64], w: &mut [u32; 64])
     ensures { take 16 w.new ≡ parsed 16 block.now }
 {
@@ -70,23 +72,17 @@ fn round(k: u32, w: u32, v: Eight) -> Eight
     }
 }
 
-// Eight rounds with their constants and words, after which each letter is where it was.
+// Eight rounds with their constants and words. After eight each letter is where it was, so that none is moved: one fold over all
+// 64 takes a quarter more time.
 fn eight_rounds(k: &[u32; 8], w: &[u32; 8], v: Eight) -> Eight
-    ensures { result ≡ rounds_with 8 k.now w.now v }
+    ensures { result ≡ rounds_by k.now w.now v }
 {
-    let v = round(k[0], w[0], v);
-    let v = round(k[1], w[1], v);
-    let v = round(k[2], w[2], v);
-    let v = round(k[3], w[3], v);
-    let v = round(k[4], w[4], v);
-    let v = round(k[5], w[5], v);
-    let v = round(k[6], w[6], v);
-    round(k[7], w[7], v)
+    k.iter().zip(w).fold(v, |v, (k, w)| round(*k, *w, v))
 }
 
 // The rounds over parts of eight, from the front.
 fn rounds_over(constants: &[[u32; 8]], words: &[[u32; 8]], v: Eight) -> Eight
-    ensures { result ≡ fold (λ x p. rounds_with 8 p.0 p.1 x) v (zip constants.now words.now) }
+    ensures { result ≡ fold (λ x p. rounds_by p.0 p.1 x) v (zip constants.now words.now) }
 {
     constants
         .iter()

@@ -16,6 +16,9 @@ pub fn majority(x: u32, y: u32, z: u32) -> u32
     (x & y) ^ (x & z) ^ (y & z)
 }
 
+// The four below are each one line, as the standard writes them; one function of their three numbers would ask for the numbers'
+// bounds besides, and leave four calls of it.
+
 // Σ0 of the rounds.
 pub fn upper_zero(x: u32) -> u32
     ensures { result ≡ Σ0 x }
