@@ -8,6 +8,8 @@ use crate::answers::answering;
 use hmac::mac;
 use sha256::digest_of;
 
+// The calls here and that of the CRC differ in what they write, and C has a name for each; what they share is `answering`.
+
 // Writes the SHA-256 digest of a message: 32 bytes.
 #[unsafe(no_mangle)]
 pub extern "C" fn card_sha256(message: &[u8], out: &mut [u8]) -> u32

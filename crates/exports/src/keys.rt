@@ -10,7 +10,7 @@ use aes::Aes128;
 use cipher::Triple;
 use des::Des;
 
-// AES under sixteen key bytes.
+// AES under sixteen key bytes. They come as a slice: where a closure makes an array of them, its proof leaves open whose key it is.
 pub fn aes_of(key: &[u8]) -> Aes128
     requires { length key.now ≡ 16 }
     ensures encrypts { encrypted (bytes_of result.keys) ≡ aes_encrypt key.now }
@@ -20,8 +20,8 @@ pub fn aes_of(key: &[u8]) -> Aes128
 }
 
 // DES under the eight key bytes from the place `at`.
-fn des_at(key: &[u8], at: usize) -> Des
-    requires { at + 8 ≤ length key.now }
+fn des_at(key: &[u8; 24], at: usize) -> Des
+    requires { at + 8 ≤ 24 }
     ensures encrypts { encrypts result.keys ≡ des_encrypt (part at key.now) }
     ensures decrypts { decrypts result.keys ≡ des_decrypt (part at key.now) }
 {
@@ -29,8 +29,7 @@ fn des_at(key: &[u8], at: usize) -> Des
 }
 
 // Triple DES under twenty-four key bytes.
-pub fn triple_of(key: &[u8]) -> Triple<Des>
-    requires { length key.now ≡ 24 }
+pub fn triple_of(key: &[u8; 24]) -> Triple<Des>
     ensures encrypts { in_turn (encrypts result.first.keys) (decrypts result.second.keys) (encrypts result.third.keys) ≡ triple_encrypt key.now }
     ensures decrypts { in_turn (decrypts result.third.keys) (encrypts result.second.keys) (decrypts result.first.keys) ≡ triple_decrypt key.now }
 {

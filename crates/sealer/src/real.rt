@@ -18,6 +18,9 @@ use sealing::{Cipher, Mechanism, Opened, Sealer, Suite, Text};
 #[derive(Clone, Copy)]
 pub struct RealSealer;
 
+// Sealing and opening match on mechanism and cipher each for itself. The lengths of a check and of a block belong to their types,
+// so no one value stands for all of them; and what is done with each is generic in it, so no closure can be handed in.
+
 // Seals under a cipher, with the mechanism's check.
 fn seal_by<C: BlockCipher>(
     cipher: &C,

@@ -26,13 +26,15 @@ impl Opened {
     }
 }
 
-// Seals texts, and opens what is a text's sealing.
+// Seals texts, and opens what is a text's sealing. Suite and keys are no one type: callers hold them as two fields of a
+// connection, as the law does, and would make one for each call.
 pub trait Sealer {
     // What sealing and opening mean.
     ghost seals: { Sealing };
 
-    // `out` is no type of its own with the room: each caller has an array, and would wrap it. Here and below this trait.
-    // Writes the sealed string at the start of `out`, leaves the rest of it, and answers the string's length.
+    // Writes the sealed string at the start of `out`, leaves the rest of it, and answers the string's length. The memory is the
+    // caller's, since a card has no heap. It is no type of its own with the room: each caller has an array, and would wrap it.
+    // Here and below this trait.
     fn seal(&self, suite: Suite, keys: &[u8; 40], text: Text<'_>, out: &mut [u8]) -> usize
         requires { 288 ≤ length out.old }
         ensures { Seals (seals.sealed suite keys.now (as_text text.entry)) out.old out.new result };

@@ -1,7 +1,7 @@
 -- How the whole blocks and the bytes left over go on as a piece is taken.
-use Rattle.std.proofs.Common.{◌≡◌, ℕ, zero, suc, ◌+◌, ◌*◌, ◌/◌, ◌%◌, ◌^◌, ◌<◌, ◌≤◌, cond, eqb, List, ◌++◌, length, take, drop, sym, refl, ap, ◌∙◌, ⊎_elim, arith, length-append, length-drop, length-take, take-add}
+use Rattle.std.proofs.Common.{◌≡◌, ℕ, zero, suc, ◌+◌, ◌*◌, ◌/◌, ◌%◌, ◌^◌, ◌<◌, ◌≤◌, cond, eqb, List, ◌++◌, length, take, drop, sym, refl, ap, ◌∙◌, ⊎_elim, arith, length-append, length-drop, length-take}
 use borrow.Rule.Slice.PartMut.{put_mid}
-use Rattle.std.proofs.lemmas.List.{take-append-le, drop-append-le, take_all, drop_all, append_assoc}
+use Rattle.std.proofs.lemmas.List.{take-append-le, drop-append-le, take_all, drop_all}
 use Rattle.std.proofs.lemmas.Slice.{take-put_mid}
 use Rattle.std.proofs.lemmas.Bool.{cases_eq, cond-true, cond-false, eq-eqb, ne_eqb}
 use Rattle.compression.specs.declared.letters.Eight.{Eight}
@@ -98,7 +98,3 @@ module _ (bytes piece b copy : List ℕ) (v w : Eight) (h m : ℕ) (eh : h ≡ l
 
   pub goes_on : GoesOn (bytes ++ piece) w (put_mid h m b copy)
   goes_on = ⊎_elim when_full when_open (cases_eq (h + length piece) 64)
-
--- A list with its next piece behind what was taken of it.
-pub taken_more : (xs ys : List ℕ) (i n : ℕ) → (xs ++ take i ys) ++ take n (drop i ys) ≡ xs ++ take (i + n) ys
-taken_more xs ys i n = append_assoc xs (take i ys) (take n (drop i ys)) ∙ ap (λ zs. xs ++ zs) (sym (take-add i n ys))
