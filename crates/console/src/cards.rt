@@ -18,7 +18,7 @@ pub struct Answers {
     pub right: Vec<Done>,
 }
 
-// The call of a step.
+// The call of a step. Both types are other crates', so there is no `From` between them.
 fn call_of(step: &Step) -> Call<'_> {
     match step {
         Step::Load(text) => Call::Load(text.as_slice()),

@@ -39,7 +39,7 @@ impl Connection {
         // A sealer writes into lent room and gives the length, since the card has no heap.
         let mut out = [0; LONGEST];
         let len = sealer.seal(self.suite, &self.secrets.keys, text, &mut out);
-        Vec::from_slice(heap, &out[0..len])
+        Vec::from_slice(heap, &out[..len])
     }
 
     // Opens in place what may be the answer to the command of this number, and gives its body.

@@ -6,13 +6,12 @@ use objects::tag::OBJECT;
 use std::alloc::{AllocError, Global};
 
 // The bytes with a part behind them.
-pub fn with_bytes(bytes: Vec<u8>, part: &[u8]) -> Result<Vec<u8>, AllocError>
+pub fn with_bytes(mut bytes: Vec<u8>, part: &[u8]) -> Result<Vec<u8>, AllocError>
     ensures bytes { IfOk result (λ v. v.items ≡ bytes.items ++ part.now) }
     ensures size { IfOk result (λ v. vec_len v ≡ vec_len bytes + length part.now) }
 {
-    let mut all = bytes;
-    all.extend_from_slice(part)?;
-    Ok(all)
+    bytes.extend_from_slice(part)?;
+    Ok(bytes)
 }
 
 // The bytes with one more object behind them, on the heap: the card writes its own into fixed memory. The bound stays a
