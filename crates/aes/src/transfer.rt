@@ -12,6 +12,14 @@ fn word(bytes: [u8; 4]) -> u32
     u32::from_be_bytes(bytes)
 }
 
+// The four bytes of a word.
+#[tactic(auto, using(byte_lists::proofs::Digits::octets_four))]
+fn four_of(word: u32) -> [u8; 4]
+    ensures { result ≡ octets 4 word }
+{
+    word.to_be_bytes()
+}
+
 // The state that the block makes.
 pub fn state_of(block: &[u8; 16]) -> State
     ensures { state_bytes result ≡ block.now }
@@ -20,14 +28,9 @@ pub fn state_of(block: &[u8; 16]) -> State
     State(columns.map(word))
 }
 
-// Writes the state into the block, by four ranges: `as_chunks_mut` promises nothing of what the block ends as, and one copy of
-// the columns' bytes, flattened, is slower.
+// Writes the state into the block.
 pub fn write(s: State, block: &mut [u8; 16])
     ensures { block.new ≡ state_bytes s }
 {
-    let [a, b, c, d] = s.0;
-    block[0..4].copy_from_slice(&a.to_be_bytes());
-    block[4..8].copy_from_slice(&b.to_be_bytes());
-    block[8..12].copy_from_slice(&c.to_be_bytes());
-    block[12..16].copy_from_slice(&d.to_be_bytes());
+    block.copy_from_slice(s.0.map(four_of).as_flattened());
 }

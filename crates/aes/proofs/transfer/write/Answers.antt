@@ -1,16 +1,15 @@
-use Rattle.std.proofs.Common.{◌≡◌, length, get_or, sym, ◌∙◌, rules}
-use Rattle.byte_lists.proofs.Digits.{octets_four}
-use Rattle.aes.specs.Parts.{written}
-use Rattle.aes.proofs.FourColumns.{four_of}
+use Rattle.std.proofs.Common.{◌≡◌, ℕ, ◌<◌, [], length, get_or, sym, ◌∙◌, rules, arith}
+use Rattle.byte_lists.specs.Numbers.{octets}
+use Rattle.aes.proofs.Mapped.{mapped, flat_bytes}
 use Rattle.aes.proofs.transfer.write.Goals as goal
 
 pub returns : goal.returns
 returns c =
-    let s = c.args.s.0 in
-    let long : length c.args.block.now ≡ 16 = search rules in
-    written c.args.block.now _ _ _ _ (get_or s 0 0) (get_or s 1 0) (get_or s 2 0) (get_or s 3 0) long
-    (c.copy_from_slice.ensures.after ∙ c.to_be_bytes.ensures ∙ sym (octets_four (get_or s 0 0)))
-    (c.copy_from_slice-2.ensures.after ∙ c.to_be_bytes-2.ensures ∙ sym (octets_four (get_or s 1 0)))
-    (c.copy_from_slice-3.ensures.after ∙ c.to_be_bytes-3.ensures ∙ sym (octets_four (get_or s 2 0)))
-    (c.copy_from_slice-4.ensures.after ∙ c.to_be_bytes-4.ensures ∙ sym (octets_four (get_or s 3 0)))
-    ∙ four_of s (search rules)
+    let ws = c.args.s.0 in
+    let four : length ws ≡ 4 = search rules in
+    let at : (i : ℕ) → i < length ws → get_or c.map.result i [] ≡ octets 4 (get_or ws i 0) = λ i h.
+    let small : i < 4 = omega arith in
+    mapped c.map.ensures.items (λ x y. y ≡ octets 4 x) (λ p q x y k. search rules) 0 [] i small
+    in
+    let long : length c.map.result ≡ length ws = c.map.ensures.items.long ∙ sym four in
+    c.copy_from_slice.ensures.after ∙ c.as_flattened.ensures.value ∙ flat_bytes ws c.map.result long at
