@@ -32,7 +32,7 @@ pub fn expand(key: u64) -> [u64; 16]
     let halves = first_choice(key);
     let mut c = halves / 0x1000_0000;
     let mut d = halves % 0x1000_0000;
-    // By `SHIFTS.map` a key is set up slower, and its slots and copies of the keys take 700 bytes of stack.
+    // By `SHIFTS.map`, with halves that its closure changes, the keys take 700 bytes more of the stack, and a key is set up slower.
     let mut keys = [0u64; 16];
     for (i, by) in SHIFTS.iter().enumerate() {
         c = shift(c, *by);
