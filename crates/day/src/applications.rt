@@ -1,11 +1,10 @@
 // The two applications, command by command.
 use crate::TODAY;
 use anyhow::Context;
-use apdu::Status;
 use application::Application;
 use fares::{Fare, FareCounter};
 use records::RecordFile;
-use show::spaced;
+use show::{Reply, SpacedPairs};
 
 // Runs one command, and shows it with its reply and what the status word says.
 fn show_command<A: Application>(
@@ -13,18 +12,11 @@ fn show_command<A: Application>(
     application: &mut A,
     command: &[u8],
 ) -> anyhow::Result<()> {
-    let heap = rt.alloc();
     let mut buffer = [0; 258];
     let len = application.run(command, &mut buffer);
     let reply = buffer.get(..len).context("a reply longer than its buffer")?;
-    let status = reply.last_chunk().context("a reply without a status word")?;
-    let sent = spaced(heap, command)?;
-    let came = spaced(heap, reply)?;
-    println!(rt; "  > {sent}")?;
-    match Status::try_from(*status) {
-        Ok(status) => println!(rt; "  < {came}  {status}")?,
-        Err(unknown) => println!(rt; "  < {came}  {unknown}")?,
-    }
+    println!(rt; "  > {}", SpacedPairs(command))?;
+    println!(rt; "  < {}", Reply(reply))?;
     Ok(())
 }
 

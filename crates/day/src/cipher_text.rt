@@ -4,7 +4,7 @@ use aes::Aes128;
 use anyhow::Context;
 use cipher::{cbc_decrypt, cbc_encrypt};
 use fares::Fare;
-use show::spaced;
+use show::SpacedPairs;
 
 // The header, and then one block.
 const HEADER: usize = 4;
@@ -12,8 +12,7 @@ const HEADER: usize = 4;
 const LENGTH: usize = 20;
 
 fn show_bytes(rt: &HostRuntime, what: &str, bytes: &[u8]) -> anyhow::Result<()> {
-    let text = spaced(rt.alloc(), bytes)?;
-    println!(rt; "  {what} {text}")?;
+    println!(rt; "  {what} {}", SpacedPairs(bytes))?;
     Ok(())
 }
 

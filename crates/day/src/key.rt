@@ -1,7 +1,7 @@
 // The key's load: from the file that the first argument names, and two that are refused.
 use anyhow::Context;
 use personalise::{KeyLoad, Refusal, read};
-use show::spaced;
+use show::SpacedPairs;
 use std::{env, fs};
 
 // A load whose limit of masters is empty, and one whose limit is above the top.
@@ -20,28 +20,23 @@ fn show_load(rt: &HostRuntime, text: &[u8]) -> anyhow::Result<()> {
 }
 
 fn show_limits(rt: &HostRuntime, load: &KeyLoad) -> anyhow::Result<()> {
-    let reference = spaced(rt.alloc(), load.reference())?;
-    let masters = load.masters();
-    let connections = load.connections();
-    let transactions = load.transactions();
-    println!(rt; "  reference    {reference}")?;
-    println!(rt; "  masters      {masters}")?;
-    println!(rt; "  connections  {connections}")?;
-    println!(rt; "  transactions {transactions}")?;
+    println!(rt; "  reference    {}", SpacedPairs(load.reference()))?;
+    println!(rt; "  masters      {}", load.masters())?;
+    println!(rt; "  connections  {}", load.connections())?;
+    println!(rt; "  transactions {}", load.transactions())?;
     Ok(())
 }
 
 fn show_refusal(rt: &HostRuntime, refusal: Refusal) -> anyhow::Result<()> {
-    let number = u8::from(refusal);
-    println!(rt; "  refused with {number}: {refusal}")?;
+    println!(rt; "  refused with {}: {refusal}", u8::from(refusal))?;
     Ok(())
 }
 
 // Loads the key, and shows its limits.
 pub fn show_key(rt: &HostRuntime) -> anyhow::Result<()> {
-    let mut words = env::args(rt)?;
-    let _program = words.next();
-    let path = words.next().context("name the file of a key's load")?;
+    let path = env::args(rt)?
+        .nth(1)
+        .context("name the file of a key's load")?;
     let text = fs::read(rt, path.as_str())?;
     show_load(rt, text.as_slice())?;
     println!(rt; "  with nothing behind masters=")?;

@@ -4,7 +4,7 @@ use crate::script::{CONTAINER, Channel, Line, Rehearsal};
 use crate::suite::AES;
 use crate::times::{Times, best_of, timed};
 use anyhow::ensure;
-use card::Powered;
+use card::{HostRefusal, Powered};
 use fares::FareCounter;
 use hmac::{expand, mac, mac_joined};
 use sealer::RealSealer;
@@ -17,13 +17,17 @@ pub const BURST: u64 = 4;
 const REPLIED: usize = 4 * (2 + 25 + 2 + 64 + 2 + 7);
 
 // Sends all commands again. The sum of the lengths of all replies.
-fn replay(card: &mut Powered<RealSealer, FareCounter>, lines: &[Line], host: &mut Host) -> usize {
-    lines.iter().fold(0usize, |sum, line| {
-        sum.wrapping_add(send(card, line.apdu.as_slice(), &line.random, host))
+fn replay(
+    card: &mut Powered<RealSealer, FareCounter>,
+    lines: &[Line],
+    host: &mut Host,
+) -> Result<usize, HostRefusal> {
+    lines.iter().try_fold(0usize, |sum, line| {
+        Ok(sum.wrapping_add(send(card, line.apdu.as_slice(), &line.random, host)?))
     })
 }
 
-// The code over what both sides say of a connection.
+// The code over what both sides say of a connection. The terminal makes it of a reply that it has read; here it alone is timed.
 fn agreement(key: &[u8], channel: &Channel) -> [u8; 32] {
     mac_joined(
         key,
@@ -39,7 +43,7 @@ fn agreement(key: &[u8], channel: &Channel) -> [u8; 32] {
 }
 
 // The codes of one association: of the master's secret, of the connection's keys, of its agreement and of its start. Whether
-// they are those that were sent.
+// they are those that were sent. By calls of `hmac` and none of the terminal, which does more than the codes that are timed.
 fn codes(key: &[u8; 32], channel: &Channel) -> bool {
     let secret = mac(key, channel.master.id());
     let mut area = [0; 64];
@@ -71,7 +75,7 @@ fn burst(rt: &HostRuntime) -> anyhow::Result<Times> {
     })?;
     let (right, contained) = timed(rt, || all_codes(rehearsal.key(), channels.as_slice()))?;
     ensure!(
-        replied == REPLIED && right == BURST,
+        replied? == REPLIED && right == BURST,
         "an association went wrong"
     );
     Ok(Times { card, contained })

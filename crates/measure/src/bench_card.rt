@@ -1,5 +1,5 @@
 // The card that is measured: a fare counter behind the real sealer.
-use card::{Off, Powered};
+use card::{HostRefusal, Off, Powered};
 use fares::FareCounter;
 use sealer::RealSealer;
 
@@ -31,13 +31,12 @@ pub fn new_card() -> anyhow::Result<Powered<RealSealer, FareCounter>> {
     Ok(card.power_on())
 }
 
-// Sends a command, and gives the length of the reply; 0 where the host is refused.
+// Sends a command, and gives the length of the reply.
 pub fn send(
     card: &mut Powered<RealSealer, FareCounter>,
     apdu: &[u8],
     random: &[u8; 32],
     host: &mut Host,
-) -> usize {
+) -> Result<usize, HostRefusal> {
     card.command(apdu, random, &mut host.reply, &mut host.work)
-        .unwrap_or(0)
 }

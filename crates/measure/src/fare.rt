@@ -4,8 +4,8 @@ use crate::script::{Channel, Rehearsal};
 use crate::suite::Case;
 use crate::times::{Times, best_of, timed};
 use anyhow::{Context, ensure};
-use card::Powered;
-use fares::FareCounter;
+use card::{HostRefusal, Powered};
+use fares::{Fare, FareCounter};
 use hmac::expand;
 use sealer::RealSealer;
 use sealing::{Direction, Sealer, Suite, Text};
@@ -17,15 +17,18 @@ pub const BURST: u64 = 32;
 // What the fare counter says of a fare that it keeps.
 const KEPT: [u8; 2] = [0x90, 0x00];
 
-// The command that has the fare counter append a fare.
-const FARE: [u8; 10] = [0x00, 0xE2, 0x00, 0x00, 0x05, 0x01, 0x00, 0x00, 0x01, 0x2C];
+// The fare that the fare counter is told to append.
+const FARE: Fare = Fare {
+    class: 1,
+    amount: 300,
+};
 
 // The sealed strings of a burst, in order; in a loop, since sealing may fail and the count goes on with it.
 fn strings(heap: Global, channel: &Channel) -> anyhow::Result<Vec<Vec<u8>>> {
     let mut connection = channel.connection;
     let mut all = Vec::new(heap);
     for _ in 0..BURST {
-        all.push(connection.seal(heap, &RealSealer, &FARE)?)?;
+        all.push(connection.seal(heap, &RealSealer, &FARE.command())?)?;
         connection.accepted();
     }
     Ok(all)
@@ -47,24 +50,27 @@ fn ride(
     blocks: &[Vec<u8>],
     fetch: &[u8],
     host: &mut Host,
-) -> usize {
+) -> Result<usize, HostRefusal> {
     let random = [7; 32];
     let mut sum = 0usize;
     for block in blocks {
-        sum = sum.wrapping_add(send(card, block.as_slice(), &random, host));
-        sum = sum.wrapping_add(send(card, fetch, &random, host));
+        sum = sum.wrapping_add(send(card, block.as_slice(), &random, host)?);
+        sum = sum.wrapping_add(send(card, fetch, &random, host)?);
     }
-    sum
+    Ok(sum)
 }
 
 // Opens each string in place and seals an answer to it; in a loop, since each turn writes to the string and the answer. The sum
-// of the lengths of all bodies and answers.
-fn seals(suite: Suite, keys: &[u8; 40], strings: &mut [Vec<u8>], answer: &mut [u8; 288]) -> usize {
+// of the lengths of all bodies and answers; none where a string does not open.
+fn seals(
+    suite: Suite,
+    keys: &[u8; 40],
+    strings: &mut [Vec<u8>],
+    answer: &mut [u8; 288],
+) -> Option<usize> {
     let mut sum = 0usize;
     for string in strings {
-        let Some(opened) = RealSealer.open(suite, keys, string.as_mut_slice()) else {
-            continue;
-        };
+        let opened = RealSealer.open(suite, keys, string.as_mut_slice())?;
         sum = sum.wrapping_add(opened.len);
         let reply = Text {
             direction: Direction::Reply,
@@ -74,10 +80,10 @@ fn seals(suite: Suite, keys: &[u8; 40], strings: &mut [Vec<u8>], answer: &mut [u
         let sealed = RealSealer.seal(suite, keys, reply, answer);
         sum = sum.wrapping_add(sealed);
     }
-    sum
+    Some(sum)
 }
 
-// The sealer's keys of a channel.
+// The sealer's keys of a channel, which the terminal keeps to itself.
 fn keys(channel: &Channel, case: &Case) -> [u8; 40] {
     let mut area = [0; 64];
     expand(
@@ -112,7 +118,7 @@ fn burst(rt: &HostRuntime, case: &Case) -> anyhow::Result<Times> {
     })?;
     let alike = is_alike(&host.reply, &answer);
     ensure!(
-        replied == case.replied && sealed == case.sealed && alike,
+        replied? == case.replied && sealed == Some(case.sealed) && alike,
         "a fare went wrong"
     );
     Ok(Times { card, contained })

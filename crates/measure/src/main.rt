@@ -14,12 +14,8 @@ use suite::{AES, TRIPLE};
 
 // The number of bursts that the first argument names, if there is one.
 fn bursts(rt: &HostRuntime) -> anyhow::Result<Option<u32>> {
-    let mut words = env::args(rt)?;
-    let _program = words.next();
-    match words.next() {
-        Some(word) => Ok(Some(word.as_str().parse::<u32>()?)),
-        None => Ok(None),
-    }
+    let word = env::args(rt)?.nth(1);
+    Ok(word.map(|word| word.as_str().parse::<u32>()).transpose()?)
 }
 
 // The table of times, each the best of so many bursts.

@@ -1,4 +1,4 @@
-// Associations between a terminal and a card, and the commands that they took.
+// Associations between a terminal and a card, and the commands that they took; tram_day, which shows each step, has its own.
 use crate::bench_card::{Host, KEY, new_card, send};
 use anyhow::{Context, anyhow, ensure};
 use apdu::Kind;
@@ -63,7 +63,7 @@ impl Rehearsal {
     fn send(&mut self, apdu: Vec<u8>) -> anyhow::Result<Vec<u8>> {
         let mut host = Host::new();
         let random = [(self.lines.len() % 256) as u8; 32];
-        let len = send(&mut self.card, apdu.as_slice(), &random, &mut host);
+        let len = send(&mut self.card, apdu.as_slice(), &random, &mut host)?;
         self.lines.push(Line { apdu, random })?;
         let data = host.reply.get(0..len.saturating_sub(2));
         Ok(Vec::from_slice(self.heap, data.context("a reply is too long")?)?)

@@ -9,14 +9,6 @@ pub struct Times {
 }
 
 impl Times {
-    // Before the first burst.
-    pub fn none() -> Times {
-        Times {
-            card: u64::MAX,
-            contained: u64::MAX,
-        }
-    }
-
     // The shorter one of each.
     pub fn least(self, other: Times) -> Times {
         Times {
@@ -56,15 +48,15 @@ pub fn timed<T: Drop, F: FnOnce() -> T>(rt: &HostRuntime, work: F) -> anyhow::Re
     Ok((given, nanoseconds(start.elapsed(rt)?)))
 }
 
-// The best of so many bursts.
+// The best of so many bursts, and of one at least.
 pub fn best_of<F: FnMut() -> anyhow::Result<Times>>(
     bursts: u32,
     mut burst: F,
 ) -> anyhow::Result<Times>
     requires { F.IsAlwaysCallable burst }
 {
-    let mut best = Times::none();
-    for _ in 0..bursts {
+    let mut best = burst()?;
+    for _ in 1..bursts {
         best = best.least(burst()?);
     }
     Ok(best)

@@ -1,6 +1,7 @@
 // Bytes as people read and write them, for the programs.
 #![tactic(auto)]
 
+use apdu::{NoSuchStatus, Status};
 use numerals::read_hexadecimal;
 use std::alloc::{AllocError, Global};
 use std::fmt;
@@ -12,6 +13,10 @@ pub struct SpacedPairs<'a>(pub &'a [u8]);
 // Bytes that are shown as pairs of capital digits; a line alone for none.
 #[derive(Clone, Copy)]
 pub struct JoinedPairs<'a>(pub &'a [u8]);
+
+// A reply that is shown as spaced pairs, with its status word in words behind them: 6A 80  wrong data.
+#[derive(Clone, Copy)]
+pub struct Reply<'a>(pub &'a [u8]);
 
 impl fmt::Display for SpacedPairs<'_> {
     fn fmt<W: fmt::Write>(&self, f: &mut fmt::Formatter<W>) -> fmt::Result {
@@ -37,14 +42,20 @@ impl fmt::Display for JoinedPairs<'_> {
     }
 }
 
-// The same text on the heap.
-pub fn spaced(heap: Global, bytes: &[u8]) -> Result<String, AllocError> {
-    format!(in heap; "{}", SpacedPairs(bytes))
+// The status word that ends a reply.
+fn status_of(reply: &[u8]) -> Result<Status, NoSuchStatus> {
+    let bytes = reply.last_chunk().ok_or(NoSuchStatus)?;
+    Status::try_from(*bytes)
 }
 
-// The same text on the heap.
-pub fn joined(heap: Global, bytes: &[u8]) -> Result<String, AllocError> {
-    format!(in heap; "{}", JoinedPairs(bytes))
+impl fmt::Display for Reply<'_> {
+    fn fmt<W: fmt::Write>(&self, f: &mut fmt::Formatter<W>) -> fmt::Result {
+        write!(f, "{}  ", SpacedPairs(self.0))?;
+        match status_of(self.0) {
+            Ok(status) => write!(f, "{status}"),
+            Err(unknown) => write!(f, "{unknown}"),
+        }
+    }
 }
 
 // The bytes that pairs of capital digits write, or a line alone for none; nothing where the text is neither.
@@ -54,10 +65,7 @@ pub fn unhex(heap: Global, text: &str) -> Result<Option<Vec<u8>>, AllocError> {
         pairs => pairs.as_bytes(),
     };
     let mut bytes = vec![in heap; 0u8; digits.len() / 2]?;
-    match read_hexadecimal(digits, bytes.as_mut_slice()) {
-        Some(()) => Ok(Some(bytes)),
-        None => Ok(None),
-    }
+    Ok(read_hexadecimal(digits, bytes.as_mut_slice()).map(|()| bytes))
 }
 
 #[cfg(test)]
@@ -68,10 +76,19 @@ mod tests {
     #[test]
     fn bytes_are_shown(rt: HostRuntime) -> Result<(), Fail> {
         let heap = rt.alloc();
-        assert!(rt; spaced(heap, &[0x00, 0x73, 0xA0])?.as_str() == "00 73 A0");
-        assert!(rt; spaced(heap, &[])?.as_str() == "");
-        assert!(rt; joined(heap, &[0x0F, 0xF0])?.as_str() == "0FF0");
-        assert!(rt; joined(heap, &[])?.as_str() == "-");
+        assert!(rt; SpacedPairs(&[0x00, 0x73, 0xA0]).to_string(heap)?.as_str() == "00 73 A0");
+        assert!(rt; SpacedPairs(&[]).to_string(heap)?.as_str() == "");
+        assert!(rt; JoinedPairs(&[0x0F, 0xF0]).to_string(heap)?.as_str() == "0FF0");
+        assert!(rt; JoinedPairs(&[]).to_string(heap)?.as_str() == "-");
+        Ok(())
+    }
+
+    #[test]
+    fn replies_are_told(rt: HostRuntime) -> Result<(), Fail> {
+        let heap = rt.alloc();
+        assert!(rt; Reply(&[0x07, 0x90, 0x00]).to_string(heap)?.as_str() == "07 90 00  done");
+        assert!(rt; Reply(&[0x90, 0x01]).to_string(heap)?.as_str() == "90 01  no such status word");
+        assert!(rt; Reply(&[0x90]).to_string(heap)?.as_str() == "90  no such status word");
         Ok(())
     }
 

@@ -1,6 +1,7 @@
 // The two cards side by side: a fare counter on the left, a record file on the right.
 use crate::random::random;
-use anyhow::{Context, anyhow};
+use anyhow::{Context, anyhow, ensure};
+use card::LoadRefusal;
 use fares::FareCounter;
 use pair::{Answer, Call, CommandCall, Done, Pair, Ran, run};
 use records::RecordFile;
@@ -36,21 +37,21 @@ fn new_pair() -> Pair<RealSealer, FareCounter, RecordFile> {
     )
 }
 
-// The number that a card answers to a load.
-fn loaded(done: &Done) -> anyhow::Result<u8> {
+// What a card answers to a load.
+fn loaded(done: &Done) -> anyhow::Result<Result<(), LoadRefusal>> {
     match done.answer {
-        Answer::Loaded(Ok(())) => Ok(0),
-        Answer::Loaded(Err(refusal)) => Ok(u8::from(refusal)),
+        Answer::Loaded(answer) => Ok(answer),
         _ => Err(anyhow!("the card takes no load")),
     }
 }
 
 // Whether the card's power went on or off.
 fn powered(done: &Done) -> anyhow::Result<()> {
-    match done.answer {
-        Answer::Powered => Ok(()),
-        _ => Err(anyhow!("the card's power is so already")),
-    }
+    ensure!(
+        done.answer == Answer::Powered,
+        "the card's power is so already"
+    );
+    Ok(())
 }
 
 // The reply that a card writes to its buffer.
@@ -90,8 +91,8 @@ impl<'a> Cards<'a> {
             .context("a call without an answer")
     }
 
-    // Loads a key into both cards; the number that they answer.
-    pub fn load(&mut self, text: &[u8]) -> anyhow::Result<u8> {
+    // Loads a key into both cards; what they answer.
+    pub fn load(&mut self, text: &[u8]) -> anyhow::Result<Result<(), LoadRefusal>> {
         let (left, right) = self.call(&Call::Load(text))?;
         let _right = loaded(&right)?;
         loaded(&left)

@@ -2,24 +2,23 @@
 use crate::cards::Cards;
 use anyhow::Context;
 use personalise::{KeyLoad, read};
-use show::spaced;
+use show::SpacedPairs;
 use std::{env, fs};
 
 // The text of the load.
 fn text(rt: &HostRuntime) -> anyhow::Result<Vec<u8>> {
-    let mut words = env::args(rt)?;
-    let _program = words.next();
-    let path = words.next().context("name the file of a key's load")?;
+    let path = env::args(rt)?
+        .nth(1)
+        .context("name the file of a key's load")?;
     Ok(fs::read(rt, path.as_str())?)
 }
 
 // Shows what a load says of a key.
 fn show_limits(rt: &HostRuntime, load: &KeyLoad) -> anyhow::Result<()> {
-    let reference = spaced(rt.alloc(), load.reference())?;
     let masters = load.masters();
     let connections = load.connections();
     let transactions = load.transactions();
-    println!(rt; "  reference {reference}")?;
+    println!(rt; "  reference {}", SpacedPairs(load.reference()))?;
     println!(rt;
         "  {masters} masters, {connections} connections of each, {transactions} commands of each connection"
     )?;
@@ -34,7 +33,7 @@ pub fn load(cards: &mut Cards<'_>) -> anyhow::Result<KeyLoad> {
         "The key is loaded into both cards, left a fare counter, right a record file"
     )?;
     show_limits(cards.rt, &load)?;
-    let number = cards.load(text.as_slice())?;
-    println!(cards.rt; "  loaded: {number}")?;
+    let answer = cards.load(text.as_slice())?;
+    println!(cards.rt; "  loaded: {}", answer.err().map_or(0, u8::from))?;
     Ok(load)
 }

@@ -1,9 +1,10 @@
 // Commands under seal, in blocks, and their answers.
 use crate::cards::{Cards, Replies};
-use crate::line::{data_of, is_marked, send, told};
+use crate::line::{data_of, is_marked, send};
 use anyhow::Context;
 use sealer::RealSealer;
 use sealing::Sealer;
+use show::Reply;
 use std::alloc::Global;
 use terminal::{Connection, Session};
 
@@ -64,10 +65,8 @@ impl Channel {
         let mut sealed = self.fetch(cards)?;
         let left = self.open(cards.rt.alloc(), number, sealed.left.as_mut_slice())?;
         let right = self.open(cards.rt.alloc(), number, sealed.right.as_mut_slice())?;
-        let left_words = told(cards.rt.alloc(), left.as_slice())?;
-        let right_words = told(cards.rt.alloc(), right.as_slice())?;
-        println!(cards.rt; "  left  opens to {left_words}")?;
-        println!(cards.rt; "  right opens to {right_words}")?;
+        println!(cards.rt; "  left  opens to {}", Reply(left.as_slice()))?;
+        println!(cards.rt; "  right opens to {}", Reply(right.as_slice()))?;
         Ok(Replies { left, right })
     }
 }

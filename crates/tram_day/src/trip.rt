@@ -1,5 +1,7 @@
 // The tram is out: fares, a receipt, and the depot's total.
-use crate::cards::Cards;
+ghost use Rattle.std.specs.Prelude.{◌≤◌, length};
+
+use crate::cards::{Cards, Replies};
 use crate::line::{data_of, send};
 use crate::talk::{Channel, Sent};
 use anyhow::{Context, ensure};
@@ -25,6 +27,25 @@ const RECEIPT: [u8; 21] = *b"\x00\xDC\x01\x00\x10line 7, 17 Nov. ";
 // Asks the fare counter for its sum.
 const TOTAL: [u8; 5] = [0x00, 0xCA, 0x00, 0x00, 0x00];
 
+// A command under the channel's seal.
+fn seal(cards: &Cards<'_>, channel: &Channel, command: &[u8]) -> Result<Vec<u8>, AllocError>
+    requires least { 2 ≤ length command.now }
+    requires most { length command.now ≤ 261 }
+{
+    channel
+        .connection
+        .seal(cards.rt.alloc(), &RealSealer, command)
+}
+
+// Seals a command, and sends it to both cards.
+fn deliver(cards: &mut Cards<'_>, channel: &Channel, command: &[u8]) -> anyhow::Result<Sent>
+    requires least { 2 ≤ length command.now }
+    requires most { length command.now ≤ 261 }
+{
+    let string = seal(cards, channel, command)?;
+    channel.send(cards, string.as_slice())
+}
+
 // Notes that a command was accepted; its number.
 fn accept(channel: &mut Channel, sent: &Sent) -> anyhow::Result<u64> {
     ensure!(sent.complete, "the card did not accept the command");
@@ -33,17 +54,19 @@ fn accept(channel: &mut Channel, sent: &Sent) -> anyhow::Result<u64> {
     Ok(number)
 }
 
+// Notes that a command was accepted, and fetches the answers to it.
+fn answered(cards: &mut Cards<'_>, channel: &mut Channel, sent: &Sent) -> anyhow::Result<Replies> {
+    let number = accept(channel, sent)?;
+    channel.answers(cards, number)
+}
+
 // A fare, its last block sent twice: it is booked once.
 pub fn first_fare(cards: &mut Cards<'_>, channel: &mut Channel) -> anyhow::Result<()> {
     println!(cards.rt; "")?;
     println!(cards.rt; "A fare of {FIRST}; its last block is sent twice, and it is booked once")?;
-    let string = channel
-        .connection
-        .seal(cards.rt.alloc(), &RealSealer, &FIRST.command())?;
-    let sent = channel.send(cards, string.as_slice())?;
+    let sent = deliver(cards, channel, &FIRST.command())?;
     let _again = send(cards, sent.last.as_slice())?;
-    let number = accept(channel, &sent)?;
-    let _replies = channel.answers(cards, number)?;
+    let _replies = answered(cards, channel, &sent)?;
     Ok(())
 }
 
@@ -60,9 +83,7 @@ fn damaged(heap: Global, string: &[u8]) -> Result<Vec<u8>, AllocError> {
 pub fn second_fare(cards: &mut Cards<'_>, channel: &mut Channel) -> anyhow::Result<()> {
     println!(cards.rt; "")?;
     println!(cards.rt; "A fare of {SECOND}; one bit is damaged on the way, and it is sent again")?;
-    let string = channel
-        .connection
-        .seal(cards.rt.alloc(), &RealSealer, &SECOND.command())?;
+    let string = seal(cards, channel, &SECOND.command())?;
     let wrong = damaged(cards.rt.alloc(), string.as_slice())?;
     let _refused = channel.send(cards, wrong.as_slice())?;
     let sent = channel.send(cards, string.as_slice())?;
@@ -74,12 +95,8 @@ pub fn second_fare(cards: &mut Cards<'_>, channel: &mut Channel) -> anyhow::Resu
 pub fn receipt(cards: &mut Cards<'_>, channel: &mut Channel) -> anyhow::Result<()> {
     println!(cards.rt; "")?;
     println!(cards.rt; "A receipt for the record file")?;
-    let string = channel
-        .connection
-        .seal(cards.rt.alloc(), &RealSealer, &RECEIPT)?;
-    let sent = channel.send(cards, string.as_slice())?;
-    let number = accept(channel, &sent)?;
-    let _replies = channel.answers(cards, number)?;
+    let sent = deliver(cards, channel, &RECEIPT)?;
+    let _replies = answered(cards, channel, &sent)?;
     Ok(())
 }
 
@@ -92,12 +109,8 @@ fn sum_of(reply: &[u8]) -> Option<u64> {
 pub fn total(cards: &mut Cards<'_>, channel: &mut Channel) -> anyhow::Result<()> {
     println!(cards.rt; "")?;
     println!(cards.rt; "The depot asks for the total, and discards the answer")?;
-    let string = channel
-        .connection
-        .seal(cards.rt.alloc(), &RealSealer, &TOTAL)?;
-    let sent = channel.send(cards, string.as_slice())?;
-    let number = accept(channel, &sent)?;
-    let replies = channel.answers(cards, number)?;
+    let sent = deliver(cards, channel, &TOTAL)?;
+    let replies = answered(cards, channel, &sent)?;
     let sum = sum_of(replies.left.as_slice()).context("the card gave no total")?;
     println!(cards.rt; "  the total is {sum}")?;
     let _discarded = send(cards, &channel.session.discard())?;
@@ -108,9 +121,6 @@ pub fn total(cards: &mut Cards<'_>, channel: &mut Channel) -> anyhow::Result<()>
 pub fn beyond(cards: &mut Cards<'_>, channel: &Channel) -> anyhow::Result<()> {
     println!(cards.rt; "")?;
     println!(cards.rt; "One fare more than the connection may carry: it is removed")?;
-    let string = channel
-        .connection
-        .seal(cards.rt.alloc(), &RealSealer, &FIRST.command())?;
-    let _refused = channel.send(cards, string.as_slice())?;
+    let _refused = deliver(cards, channel, &FIRST.command())?;
     Ok(())
 }

@@ -9,7 +9,7 @@ mod run;
 mod seals;
 mod vector;
 
-use anyhow::anyhow;
+use anyhow::ensure;
 use report::Report;
 
 fn all(rt: &HostRuntime) -> anyhow::Result<()> {
@@ -20,11 +20,8 @@ fn all(rt: &HostRuntime) -> anyhow::Result<()> {
         println!(rt; "{report}")?;
         good &= report.is_good();
     }
-    if good {
-        Ok(())
-    } else {
-        Err(anyhow!("a vector failed"))
-    }
+    ensure!(good, "a vector failed");
+    Ok(())
 }
 
 fn main(rt: HostRuntime) -> anyhow::Result<()> {

@@ -6,14 +6,11 @@ use std::alloc::Global;
 
 // 00 where the text loads a key, else the number of its refusal, as the vectors write it.
 pub fn load(heap: Global, text: &[u8]) -> Outcome {
-    let number = match read(text) {
-        Ok(_) => 0,
-        Err(refusal) => u8::from(refusal),
-    };
+    let number = read(text).err().map_or(0, u8::from);
     Ok(vec![in heap; number]?)
 }
 
-// 00 and the value of a whole object; 01 where blocks are to come; 02 where it is bad.
+// 00 and the value of a whole object; 01 where blocks are to come; 02 where it is bad; as the vectors write it.
 pub fn object(heap: Global, bytes: &[u8]) -> Outcome {
     let mut out = Vec::new(heap);
     match read_object(bytes) {

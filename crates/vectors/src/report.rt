@@ -2,16 +2,24 @@
 use crate::fault::Fault;
 use crate::run::run;
 use crate::vector::Vector;
-use show::joined;
+use show::JoinedPairs;
 use std::alloc::Global;
 use std::fmt;
 
-// What came of a vector.
+// Why a vector failed.
 #[derive(Drop)]
-pub enum Verdict {
-    Passed,
+pub enum Failure {
     OtherLength,
-    CameOut(String),
+    CameOut(Vec<u8>),
+}
+
+impl fmt::Display for Failure {
+    fn fmt<W: fmt::Write>(&self, f: &mut fmt::Formatter<W>) -> fmt::Result {
+        match self {
+            Failure::OtherLength => write!(f, "{}", Fault::OtherLength),
+            Failure::CameOut(bytes) => write!(f, "{} came out", JoinedPairs(bytes.as_slice())),
+        }
+    }
 }
 
 #[derive(Drop)]
@@ -21,8 +29,8 @@ pub enum Report<'a> {
     NotAVector(&'a str),
     Judged {
         name: &'a str,
-        expected: String,
-        verdict: Verdict,
+        expected: Vec<u8>,
+        verdict: Result<(), Failure>,
     },
 }
 
@@ -47,14 +55,14 @@ impl<'a> Report<'a> {
             vector.input.as_slice(),
         );
         let verdict = match came {
-            Ok(came) if came.as_slice() == vector.expected.as_slice() => Verdict::Passed,
-            Ok(came) => Verdict::CameOut(joined(heap, came.as_slice())?),
-            Err(Fault::OtherLength) => Verdict::OtherLength,
+            Ok(came) if came.as_slice() == vector.expected.as_slice() => Ok(()),
+            Ok(came) => Err(Failure::CameOut(came)),
+            Err(Fault::OtherLength) => Err(Failure::OtherLength),
             Err(fault) => return Err(fault),
         };
         Ok(Report::Judged {
             name: vector.name,
-            expected: joined(heap, vector.expected.as_slice())?,
+            expected: vector.expected,
             verdict,
         })
     }
@@ -65,7 +73,7 @@ impl<'a> Report<'a> {
             self,
             Report::Heading(_)
                 | Report::Judged {
-                    verdict: Verdict::Passed,
+                    verdict: Ok(()),
                     ..
                 }
         )
@@ -81,15 +89,13 @@ impl<'a> fmt::Display for Report<'a> {
                 name,
                 expected,
                 verdict,
-            } => match verdict {
-                Verdict::Passed => write!(f, "ok      {name} {expected}"),
-                Verdict::OtherLength => {
-                    write!(f, "FAILED  {name} {expected}: {}", Fault::OtherLength)
+            } => {
+                let expected = JoinedPairs(expected.as_slice());
+                match verdict {
+                    Ok(()) => write!(f, "ok      {name} {expected}"),
+                    Err(failure) => write!(f, "FAILED  {name} {expected}: {failure}"),
                 }
-                Verdict::CameOut(came) => {
-                    write!(f, "FAILED  {name} {expected}: {came} came out")
-                }
-            },
+            }
         }
     }
 }

@@ -23,6 +23,7 @@ pub fn exactly<const N: usize>(bytes: &[u8]) -> Result<&[u8; N], Fault> {
     bytes.as_array().ok_or(Fault::OtherLength)
 }
 
+// `new` is of no trait, so each cipher has a function to make it.
 fn aes(key: &[u8]) -> Result<Aes128, Fault> {
     Ok(Aes128::new(exactly(key)?))
 }
@@ -93,7 +94,8 @@ fn expansion(heap: Global, key: &[u8], seed: &[u8]) -> Outcome {
     copied(heap, &area)
 }
 
-fn copied(heap: Global, bytes: &[u8]) -> Outcome {
+// A copy of the bytes.
+pub fn copied(heap: Global, bytes: &[u8]) -> Outcome {
     Ok(bytes.to_vec(heap)?)
 }
 

@@ -1,6 +1,6 @@
 // Sealing and opening as vectors: a text is its direction, eight bytes of number, and its body.
 use crate::fault::Fault;
-use crate::run::{Outcome, exactly};
+use crate::run::{Outcome, copied, exactly};
 use sealer::RealSealer;
 use sealing::{Direction, Sealer, Suite, Text};
 use std::alloc::Global;
@@ -11,34 +11,29 @@ pub fn sealed(heap: Global, suite: Suite, keys: &[u8], text: &[u8]) -> Outcome {
     if text.len() < 11 || text.len() > 270 {
         return Err(Fault::OtherLength);
     }
-    let Ok(direction) = Direction::try_from(text[0]) else {
-        return Err(Fault::OtherLength);
-    };
+    let direction = Direction::try_from(text[0]).map_err(|_unknown| Fault::OtherLength)?;
     let number = exactly::<8>(&text[1..9])?;
     let text = Text {
         direction,
         number: u64::from_be_bytes(*number),
         body: &text[9..],
     };
-    let mut out = vec![in heap; 0u8; 288]?;
-    let len = RealSealer.seal(suite, keys, text, out.as_mut_slice());
-    out.truncate(len);
-    Ok(out)
+    // A sealer has no heap: it is lent room, and answers the length.
+    let mut out = [0; 288];
+    let len = RealSealer.seal(suite, keys, text, &mut out);
+    copied(heap, &out[..len])
 }
 
 // The text of a string, or no bytes where it does not open.
 pub fn opened(heap: Global, suite: Suite, keys: &[u8], string: &[u8]) -> Outcome {
     let keys = exactly::<40>(keys)?;
     let mut buffer = string.to_vec(heap)?;
-    let Some(text) = RealSealer.open(suite, keys, buffer.as_mut_slice()) else {
-        return Ok(Vec::new(heap));
-    };
     let mut out = Vec::new(heap);
+    let Some(text) = RealSealer.open(suite, keys, buffer.as_mut_slice()) else {
+        return Ok(out);
+    };
     out.push(u8::from(text.direction))?;
     out.extend_from_slice(&text.number.to_be_bytes())?;
-    let Some(body) = buffer.as_slice().get(text.at..text.at + text.len) else {
-        return Err(Fault::OtherLength);
-    };
-    out.extend_from_slice(body)?;
+    out.extend_from_slice(text.body(buffer.as_slice()).unwrap())?;
     Ok(out)
 }
