@@ -70,7 +70,10 @@ pub fn establish_connection(cards: &mut Cards<'_>, master: &Master) -> anyhow::R
 }
 
 // The session of a connection.
-pub fn start(cards: &mut Cards<'_>, connection: Connection) -> anyhow::Result<Channel> {
+pub fn start<'a, 'b>(
+    cards: &'a mut Cards<'b>,
+    connection: Connection,
+) -> anyhow::Result<Channel<'a, 'b>> {
     println!(cards.rt; "")?;
     println!(cards.rt; "A session, with blocks of up to {CONTAINER} bytes")?;
     let object = start_object(cards.rt.alloc(), &connection, CONTAINER)?;
@@ -81,6 +84,7 @@ pub fn start(cards: &mut Cards<'_>, connection: Connection) -> anyhow::Result<Ch
         container: CONTAINER,
     };
     Ok(Channel {
+        cards,
         connection,
         session,
     })

@@ -17,11 +17,11 @@ use terminal::Master;
 fn trips(cards: &mut Cards<'_>, master: &Master) -> anyhow::Result<()> {
     let connection = establish_connection(cards, master)?;
     let mut channel = start(cards, connection)?;
-    trip::first_fare(cards, &mut channel)?;
-    trip::second_fare(cards, &mut channel)?;
-    trip::receipt(cards, &mut channel)?;
-    trip::total(cards, &mut channel)?;
-    trip::beyond(cards, &channel)
+    channel.first_fare()?;
+    channel.second_fare()?;
+    channel.receipt()?;
+    channel.total()?;
+    channel.beyond()
 }
 
 fn day(rt: &HostRuntime) -> anyhow::Result<()> {

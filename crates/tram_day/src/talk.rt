@@ -5,12 +5,12 @@ use anyhow::Context;
 use sealer::RealSealer;
 use sealing::Sealer;
 use show::Reply;
-use std::alloc::Global;
 use terminal::{Connection, Session};
 
-// A connection with its session.
-#[derive(Clone, Copy)]
-pub struct Channel {
+// The cards with a connection to them, and its session.
+#[derive(Drop)]
+pub struct Channel<'a, 'b> {
+    pub cards: &'a mut Cards<'b>,
     pub connection: Connection,
     pub session: Session,
 }
@@ -22,16 +22,17 @@ pub struct Sent {
     pub complete: bool,
 }
 
-impl Channel {
+impl Channel<'_, '_> {
     // Sends a sealed string, block by block.
-    pub fn send(&self, cards: &mut Cards<'_>, string: &[u8]) -> anyhow::Result<Sent> {
-        let mut last = Vec::new(cards.rt.alloc());
+    pub fn send(&mut self, string: &[u8]) -> anyhow::Result<Sent> {
+        let heap = self.cards.rt.alloc();
+        let mut last = Vec::new(heap);
         let mut complete = false;
         for number in 0..=255u8 {
-            let Some(block) = self.session.block(cards.rt.alloc(), string, number)? else {
+            let Some(block) = self.session.block(heap, string, number)? else {
                 break;
             };
-            let replies = send(cards, block.as_slice())?;
+            let replies = send(self.cards, block.as_slice())?;
             complete = is_marked(replies.left.as_slice());
             last = block;
         }
@@ -39,11 +40,12 @@ impl Channel {
     }
 
     // Fetches the answers of both cards, block by block.
-    fn fetch(&self, cards: &mut Cards<'_>) -> anyhow::Result<Replies> {
-        let mut left = Vec::new(cards.rt.alloc());
-        let mut right = Vec::new(cards.rt.alloc());
+    fn fetch(&mut self) -> anyhow::Result<Replies> {
+        let heap = self.cards.rt.alloc();
+        let mut left = Vec::new(heap);
+        let mut right = Vec::new(heap);
         for number in 0..=255u8 {
-            let replies = send(cards, &self.session.fetch(number))?;
+            let replies = send(self.cards, &self.session.fetch(number))?;
             left.extend_from_slice(data_of(replies.left.as_slice()))?;
             right.extend_from_slice(data_of(replies.right.as_slice()))?;
             if !is_marked(replies.left.as_slice()) && !is_marked(replies.right.as_slice()) {
@@ -54,19 +56,20 @@ impl Channel {
     }
 
     // What an application replied to the command of this number, out of its seal.
-    fn open(&self, heap: Global, number: u64, string: &mut [u8]) -> anyhow::Result<Vec<u8>> {
+    fn open(&self, number: u64, string: &mut [u8]) -> anyhow::Result<Vec<u8>> {
         self.connection
-            .open(heap, &RealSealer, number, string)?
+            .open(self.cards.rt.alloc(), &RealSealer, number, string)?
             .context("the answer does not open")
     }
 
     // Fetches the answers to the command of this number, opens them, and shows them.
-    pub fn answers(&self, cards: &mut Cards<'_>, number: u64) -> anyhow::Result<Replies> {
-        let mut sealed = self.fetch(cards)?;
-        let left = self.open(cards.rt.alloc(), number, sealed.left.as_mut_slice())?;
-        let right = self.open(cards.rt.alloc(), number, sealed.right.as_mut_slice())?;
-        println!(cards.rt; "  left  opens to {}", Reply(left.as_slice()))?;
-        println!(cards.rt; "  right opens to {}", Reply(right.as_slice()))?;
+    pub fn answers(&mut self, number: u64) -> anyhow::Result<Replies> {
+        let mut sealed = self.fetch()?;
+        let left = self.open(number, sealed.left.as_mut_slice())?;
+        let right = self.open(number, sealed.right.as_mut_slice())?;
+        let rt = self.cards.rt;
+        println!(rt; "  left  opens to {}", Reply(left.as_slice()))?;
+        println!(rt; "  right opens to {}", Reply(right.as_slice()))?;
         Ok(Replies { left, right })
     }
 }
