@@ -25,6 +25,7 @@ pub fn sealed(heap: Global, suite: Suite, keys: &[u8], text: &[u8]) -> Outcome {
 }
 
 // The text of a string, or no bytes where it does not open.
+#[tactic(auto, using(sealing::proofs::Body::body_given))]
 pub fn opened(heap: Global, suite: Suite, keys: &[u8], string: &[u8]) -> Outcome {
     let keys = exactly::<40>(keys)?;
     let mut buffer = string.to_vec(heap)?;
