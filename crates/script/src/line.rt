@@ -89,7 +89,7 @@ impl Line {
             ["on"] => Ok(Line::Call(Step::On)),
             ["off"] => Ok(Line::Call(Step::Off)),
             ["load", text] => Ok(Line::Call(Step::Load(read_bytes(heap, text)?))),
-            ["new", a, b, c, d] => Ok(Line::New(Setup::read([a, b, c, d])?)),
+            ["new", a, b, c, d] => Ok(Line::New(Setup::try_from([a, b, c, d])?)),
             ["command", a, b, c, d] => {
                 Ok(Line::Call(Step::Command(read_command(heap, [a, b, c, d])?)))
             }

@@ -81,9 +81,17 @@ fn channel_named(word: &str) -> Result<bool, NoSuchWord>
     }
 }
 
-impl Setup {
-    // Reads the four words behind `new`.
-    pub fn read(words: [&str; 4]) -> Result<Setup, NoSuchWord> {
+impl TryFrom<[&str; 4]> for Setup {
+    type Error = NoSuchWord;
+
+    ghost use Rattle.std.specs.Prelude.{◌≡◌, MatchResult, ◌≢◌, map};
+    ghost use Rattle.script.specs.Words.{setup_words};
+    ghost use Rattle.script.specs.declared.setup.Setup.{Setup as SetupOf};
+
+    ghost try_from_gives = { λ words read. MatchResult read (λ s. map (λ w. w.now) words ≡ setup_words s) (λ _. (s : SetupOf) → map (λ w. w.now) words ≢ setup_words s) };
+
+    // What the four words behind `new` say.
+    fn try_from(words: [&str; 4]) -> Result<Setup, NoSuchWord> {
         let [left, right, channel, seals] = words;
         Ok(Setup {
             left: left.parse()?,
