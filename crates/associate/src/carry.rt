@@ -45,6 +45,7 @@ pub fn carry_out(
 // The four that follow are texts of their own: handed as a closure to `and_then`, what the steps make of the tables stays open in the proof.
 
 // Establishes a master, as an object asks.
+#[tactic(auto, using(tables::proofs::Kept::all_kept))]
 fn carry_master(tables: &mut Tables, value: &[u8], random: &[u8; 32]) -> Result<Buffer, Status>
     ensures outcome { outcome keyed (tables_of tables.old) random.now (asked_master value.now) ≡ done (tables_of tables.new) (sent result) }
     ensures answers { Keeps tables.old tables.new }
@@ -56,6 +57,7 @@ fn carry_master(tables: &mut Tables, value: &[u8], random: &[u8; 32]) -> Result<
 }
 
 // Establishes a connection, as an object asks.
+#[tactic(auto, using(tables::proofs::Kept::all_kept))]
 fn carry_connection(tables: &mut Tables, value: &[u8], lent: Lent<'_>) -> Result<Buffer, Status>
     ensures outcome { outcome keyed (tables_of tables.old) lent.entry.random.now (asked_connection value.now) ≡ done (tables_of tables.new) (sent result) }
     ensures answers { Keeps tables.old tables.new }
@@ -67,6 +69,7 @@ fn carry_connection(tables: &mut Tables, value: &[u8], lent: Lent<'_>) -> Result
 }
 
 // Starts a session, as an object asks.
+#[tactic(auto, using(tables::proofs::Kept::all_kept))]
 fn carry_start(tables: &mut Tables, value: &[u8], area: &mut [u8; 64]) -> Result<Buffer, Status>
     ensures outcome { (random : List ℕ) → outcome keyed (tables_of tables.old) random (asked_start value.now) ≡ done (tables_of tables.new) (sent result) }
     ensures answers { Keeps tables.old tables.new }
@@ -78,6 +81,7 @@ fn carry_start(tables: &mut Tables, value: &[u8], area: &mut [u8; 64]) -> Result
 }
 
 // Terminates a master or a connection, as an object asks.
+#[tactic(auto, using(crate::proofs::Outcomes::end_is, tables::proofs::Kept::all_kept))]
 fn carry_end(tables: &mut Tables, value: &[u8], area: &mut [u8; 64]) -> Result<Buffer, Status>
     ensures outcome { (random : List ℕ) → outcome keyed (tables_of tables.old) random (asked_end value.now) ≡ done (tables_of tables.new) (sent result) }
     ensures answers { Keeps tables.old tables.new }

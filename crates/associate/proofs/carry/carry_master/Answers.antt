@@ -1,29 +1,14 @@
-use Rattle.std.proofs.Common.{Some, sym, ap, ◌∙◌}
-use Rattle.objects.specs.Asked.{asked_master, seen_master}
+use Rattle.std.proofs.Common.{sym, ap, ◌∙◌}
 use Rattle.law.specs.Hashes.{keyed}
 use Rattle.tables.specs.View.{tables_of}
-use Rattle.tables.proofs.Kept.{all_kept}
-use Rattle.associate.specs.Outcome.{sent, replied}
-use Rattle.associate.specs.Steps.{master_steps}
+use Rattle.associate.specs.Outcome.{done, outcome}
 use Rattle.associate.proofs.Outcomes.{master_is}
-use Rattle.associate.proofs.Carried.{unreadable, carried}
 use Rattle.associate.proofs.carry.carry_master.Goals as goal
 
-pub returns-in_default : goal.returns-in_default
-returns-in_default c =
-    let t = c.args.tables.now in
-    record {
-      outcome = unreadable keyed (tables_of t) c.args.random.now (asked_master c.args.value.now) (ap seen_master (sym c.in_default.is) ∙ c.read.ensures.asks);
-      answers = all_kept t.connections;
-    }
-
-pub returns : goal.returns
-returns c =
+pub returns-clause-outcome : goal.returns-clause-outcome
+returns-clause-outcome c =
     let t = c.args.tables.now in
     let q = c.in-Some.request in
-    record {
-      outcome = carried keyed (tables_of t) c.args.random.now (asked_master c.args.value.now) (seen_master (Some q)) (master_steps keyed (tables_of t) c.args.random.now q.reference.now q.mechanisms)
-          (tables_of c.establish_master.new.tables) (replied c.establish_master.result) (sent c.with_object.result)
-          c.in-Some.ensures.asks (master_is keyed (tables_of t) c.args.random.now q.reference.now q.mechanisms) c.establish_master.ensures.steps c.with_object.ensures;
-      answers = c.establish_master.ensures.answers (all_kept t.connections);
-    }
+    ap (outcome keyed (tables_of t) c.args.random.now) (sym c.in-Some.ensures.asks)
+    ∙ sym (master_is keyed (tables_of t) c.args.random.now q.reference.now q.mechanisms)
+    ∙ c.establish_master.ensures.steps ∙ ap (done (tables_of c.establish_master.new.tables)) (sym c.with_object.ensures)
