@@ -1,3 +1,2 @@
 pub mod Outcomes
-pub mod Carried
 pub mod Passed

@@ -21,6 +21,7 @@ use tables::Tables;
 
 // Carries out what the value of an object of this kind asks for, and answers the bytes of the reply, which are none for a
 // termination. What is left in the area is free; it is a slice, since a host lends one of any length from 64 on.
+#[tactic(auto, using(tables::proofs::Kept::all_kept))]
 pub fn carry_out(
     tables: &mut Tables,
     kind: Kind,
