@@ -21,7 +21,7 @@ pub fn in_blocks(len: usize, block: usize) -> usize
     requires { (len ≤ 288) × ((1 ≤ block) × (block ≤ 16)) }
     ensures { result ≡ len + missing block len }
 {
-    len + (block - len % block) % block
+    len.next_multiple_of(block)
 }
 
 // The body's length that a frame states.

@@ -17,7 +17,5 @@ pub fn bytes_of(v: Eight) -> [u8; 32]
     ensures { result ≡ written v }
 {
     let words: [u32; 8] = v.into();
-    let mut out = [0; 32];
-    out.copy_from_slice(words.map(four_of).as_flattened());
-    out
+    *words.map(four_of).as_flattened().as_array().unwrap()
 }

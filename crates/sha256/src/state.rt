@@ -1,6 +1,4 @@
 // A digest in progress.
-ghost use Rattle.std.specs.Prelude.{◌≡◌, length};
-
 use compression::Eight;
 
 // What is kept of the bytes taken so far: the eight words, the block that is being filled, and the count. How far the block is
@@ -10,5 +8,4 @@ pub struct Sha256 {
     pub(crate) chain: Eight,
     pub(crate) block: [u8; 64],
     pub(crate) count: u64,
-    ghost long: { length block ≡ 64 },
 }

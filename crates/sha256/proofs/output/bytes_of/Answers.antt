@@ -20,4 +20,5 @@ returns c =
     mapped c.map.ensures.items (λ x y. y ≡ octets 4 x) (λ p q x y k. search rules) i small
     in
     let long : length c.map.result ≡ length ws = c.map.ensures.items.long ∙ sym eight in
-    c.copy_from_slice.ensures.after ∙ c.as_flattened.ensures.value ∙ flat_written ws c.map.result long at ∙ ap (flat_map (octets 4)) c.into-words.ensures
+    let same : c.unwrap.result.now ≡ c.as_flattened.result.now = search rules in
+    same ∙ c.as_flattened.ensures.value ∙ flat_written ws c.map.result long at ∙ ap (flat_map (octets 4)) c.into-words.ensures
