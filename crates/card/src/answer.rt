@@ -1,12 +1,12 @@
 // What a powered card answers to a command, by what is asked.
-ghost use Rattle.std.specs.Prelude.{◌≡◌, ◌≤◌, length, MatchOption};
+ghost use Rattle.std.specs.Prelude.{◌≡◌, MatchOption};
 ghost use Rattle.manage.specs.Told.{bytes_of};
 ghost use Rattle.manage.specs.View.{core_of};
 ghost use Rattle.law.specs.Calls.{replied};
 ghost use Rattle.law.specs.Hashes.{keyed};
 ghost use Rattle.law.specs.Request.{request};
 ghost use Rattle.law.specs.Step.{carries, plain, requests};
-ghost use Rattle.card.specs.View.{on_state, outcome, Answers};
+ghost use Rattle.card.specs.View.{on_state, outcome};
 
 use crate::powered::Powered;
 use apdu::Status;
@@ -17,8 +17,13 @@ use sealing::Sealer;
 
 impl<S: Sealer, A: Application> Powered<S, A> {
     // What is told to a command; none where the application replies to it.
-    fn told(&mut self, apdu: &[u8], random: &[u8; 32], area: &mut [u8]) -> Option<Told>
-        requires { 64 ≤ length area.old }
+    #[tactic(auto, using(tables::proofs::Kept::all_kept))]
+    pub(crate) fn told(
+        &mut self,
+        apdu: &[u8],
+        random: &[u8; 32],
+        area: &mut [u8; 64],
+    ) -> Option<Told>
         ensures { MatchOption result ((requests keyed S.seals (core_of self.old.parts.core) apdu.now random.now (request apdu.now) ≡ plain apdu.now) × (self.new ≡ self.old)) (λ t. carries S.seals A.acts (on_state A.contents self.old) (requests keyed S.seals (core_of self.old.parts.core) apdu.now random.now (request apdu.now)) ≡ outcome (on_state A.contents self.new) (replied (bytes_of t))) }
     {
         match Request::read(apdu) {
@@ -44,24 +49,6 @@ impl<S: Sealer, A: Application> Powered<S, A> {
             Request::Discard(asked) => {
                 Some(Told::from(self.parts.discard(asked.row, asked.body)))
             }
-        }
-    }
-
-    // Answers a command by what its APDU asks.
-    pub(crate) fn answer(
-        &mut self,
-        apdu: &[u8],
-        random: &[u8; 32],
-        reply: &mut [u8],
-        area: &mut [u8],
-    ) -> usize
-        requires room { 258 ≤ length reply.old }
-        requires area { 64 ≤ length area.old }
-        ensures { Answers (carries S.seals A.acts (on_state A.contents self.old) (requests keyed S.seals (core_of self.old.parts.core) apdu.now random.now (request apdu.now))) (on_state A.contents self.new) reply.old reply.new result }
-    {
-        match self.told(apdu, random, area) {
-            Some(told) => told.write(reply),
-            None => self.parts.application.run(apdu, reply),
         }
     }
 }

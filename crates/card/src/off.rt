@@ -49,6 +49,7 @@ impl<S: Sealer, A: Application> Off<S, A> {
     }
 
     // Turns the power on.
+    #[tactic(auto, using(tables::proofs::Kept::all_kept))]
     pub fn power_on(self) -> Powered<S, A>
         ensures { step keyed S.seals A.acts (off_state A.contents self) power_on ≡ outcome (on_state A.contents result) powered }
     {

@@ -70,7 +70,10 @@ impl<S: Sealer, A: Application> Powered<S, A> {
         ensures wiped { work.new ≡ replicate (length work.old) 0 }
     {
         let area = WorkArea(work);
-        self.answer(apdu, random, reply, area.0)
+        match self.told(apdu, random, area.0.first_chunk_mut::<64>().unwrap()) {
+            Some(told) => told.write(reply),
+            None => self.parts.application.run(apdu, reply),
+        }
     }
 }
 

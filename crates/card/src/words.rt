@@ -46,7 +46,7 @@ impl From<Refusal> for LoadRefusal {
 }
 
 impl LoadRefusal {
-    // The refusal in words, for people.
+    // The refusal in words, for people. Beside Display, whose formatter may fail where this cannot.
     pub fn words(self) -> &'static str
         ensures { result.now ≡ load_words self }
     {
@@ -71,7 +71,7 @@ impl fmt::Display for LoadRefusal {
 impl Error for LoadRefusal {}
 
 impl HostRefusal {
-    // The refusal in words, for people.
+    // The refusal in words, for people. Beside Display, whose formatter may fail where this cannot.
     pub fn words(self) -> &'static str
         ensures { result.now ≡ host_words self }
     {
