@@ -1,12 +1,10 @@
--- What a command says, and the memory that it leaves, told of the buffer and the work area that were made for it.
-use Rattle.std.proofs.Common.{◌≡◌, ℕ, List, ◌++◌, length, take, drop, replicate, Ok, Err, Result, sym, ap, ◌∙◌, arith, take_all}
+-- The memory that a command leaves, told of the buffer and the work area that were made for it.
+use Rattle.std.proofs.Common.{◌≡◌, ℕ, List, ◌++◌, length, take, drop, replicate, Ok, Err, Result, ap, ◌∙◌, arith, take_all}
 use lib.ListN.{length-replicate}
 use lib.Seq.{take-append-le}
 use Rattle.std.proofs.lemmas.List.{drop-replicate}
-use Rattle.law.specs.Step as step
-use Rattle.law.specs.Step.{State}
 use Rattle.card.specs.declared.refusal.HostRefusal.{HostRefusal}
-use Rattle.card.specs.View.{outcome, answered, Memory}
+use Rattle.card.specs.View.{Memory}
 use Rattle.pair.specs.declared.calls.Answer.TheVariants.{Replied}
 use Rattle.pair.specs.Lent.{LentAs}
 
@@ -14,12 +12,8 @@ use Rattle.pair.specs.Lent.{LentAs}
 pub holds_written : (n : ℕ) (written before : List ℕ) → length written ≡ n → take n (written ++ drop (length written) before) ≡ written
 holds_written n written before e = take-append-le n written (drop (length written) before) (omega arith) ∙ take_all n written (omega arith)
 
-pub long : (xs : List ℕ) (n x : ℕ) → xs ≡ replicate n x → length xs ≡ n
+long : (xs : List ℕ) (n x : ℕ) → xs ≡ replicate n x → length xs ≡ n
 long xs n x e = ap (λ (ys : List ℕ). length ys) e ∙ length-replicate n x
-
-pub says : {M : Type 0} (d : step.Done M) (s : State M) (r : Result ℕ HostRefusal) (written buffer : List ℕ)
-    → buffer ≡ written → d ≡ outcome s (answered r written) → d ≡ outcome s (answered r buffer)
-says d s r written buffer same h = h ∙ ap (λ (xs : List ℕ). outcome s (answered r xs)) (sym same)
 
 lends_as : (fill size area : ℕ) (r : Result ℕ HostRefusal) (lent written work after : List ℕ) → lent ≡ replicate size fill → work ≡ replicate area fill
     → Memory r lent written work after → LentAs fill size area (Replied r) written after

@@ -5,6 +5,7 @@ ghost use Rattle.pair.specs.View.{state_of};
 
 use crate::calls::{Call, Done};
 use crate::cards::{Card, Pair, Ran};
+use crate::host::Host;
 use crate::one::one;
 use application::Application;
 use sealing::Sealer;
@@ -12,17 +13,15 @@ use std::alloc::{AllocError, Global};
 
 // Makes the calls to one card, in order.
 fn run_card<S: Sealer + Drop, A: Application + Drop>(
-    card: Card<S, A>,
+    mut card: Card<S, A>,
     calls: &[Call<'_>],
-    fill: u8,
-    heap: Global,
+    host: Host,
 ) -> Result<(Card<S, A>, Vec<Done>), AllocError>
-    ensures { IfOk result (λ m. Followed S.seals A.acts fill (state_of A.contents card) calls.now m.1.items (state_of A.contents m.0)) }
+    ensures { IfOk result (λ m. Followed S.seals A.acts host.fill (state_of A.contents card) calls.now m.1.items (state_of A.contents m.0)) }
 {
-    let mut card = card;
-    let mut dones = Vec::new(heap);
+    let mut dones = Vec::new(host.heap);
     for call in calls {
-        let (next, done) = one(card, call, fill, heap)?;
+        let (next, done) = one(card, call, host)?;
         card = next;
         dones.push(done)?;
     }
@@ -33,15 +32,14 @@ fn run_card<S: Sealer + Drop, A: Application + Drop>(
 fn run_both<S: Sealer + Drop, L: Application + Drop, R: Application + Drop>(
     pair: Pair<S, L, R>,
     calls: &[Call<'_>],
-    fill: u8,
-    heap: Global,
+    host: Host,
 ) -> Result<Ran<S, L, R>, AllocError>
-    ensures left { IfOk result (λ ran. Followed S.seals L.acts fill (state_of L.contents pair.left) calls.now ran.left.items (state_of L.contents ran.pair.left)) }
-    ensures right { IfOk result (λ ran. Followed S.seals R.acts fill (state_of R.contents pair.right) calls.now ran.right.items (state_of R.contents ran.pair.right)) }
+    ensures left { IfOk result (λ ran. Followed S.seals L.acts host.fill (state_of L.contents pair.left) calls.now ran.left.items (state_of L.contents ran.pair.left)) }
+    ensures right { IfOk result (λ ran. Followed S.seals R.acts host.fill (state_of R.contents pair.right) calls.now ran.right.items (state_of R.contents ran.pair.right)) }
 {
     let Pair { left, right } = pair;
-    let (left, left_dones) = run_card(left, calls, fill, heap)?;
-    let (right, right_dones) = run_card(right, calls, fill, heap)?;
+    let (left, left_dones) = run_card(left, calls, host)?;
+    let (right, right_dones) = run_card(right, calls, host)?;
     Ok(Ran {
         pair: Pair { left, right },
         left: left_dones,
@@ -62,5 +60,5 @@ pub fn run<S: Sealer + Drop, L: Application + Drop, R: Application + Drop>(
     ensures right { IfOk result (λ ran. Followed S.seals R.acts fill (state_of R.contents pair.right) calls.now ran.right.items (state_of R.contents ran.pair.right)) }
     ensures law { IfOk result (λ ran. LawfulRun S.seals L.acts R.acts (state_of L.contents pair.left) (state_of R.contents pair.right) calls.now ran.left.items ran.right.items (state_of L.contents ran.pair.left) (state_of R.contents ran.pair.right)) }
 {
-    run_both(pair, calls, fill, heap)
+    run_both(pair, calls, Host { fill, heap })
 }

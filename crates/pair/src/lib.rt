@@ -4,6 +4,7 @@
 mod both;
 mod calls;
 mod cards;
+mod host;
 mod one;
 
 pub use both::run;

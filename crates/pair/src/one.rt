@@ -9,6 +9,7 @@ ghost use Rattle.pair.specs.View.{call_of, done_answer, state_of, takes};
 
 use crate::calls::{Answer, Call, CommandCall, Done};
 use crate::cards::Card;
+use crate::host::Host;
 use application::Application;
 use card::{Off, Powered};
 use sealing::Sealer;
@@ -42,14 +43,13 @@ fn not_taken<S: Sealer, A: Application>(
 
 // A call to a card that is off.
 fn call_off<S: Sealer, A: Application>(
-    card: Off<S, A>,
+    mut card: Off<S, A>,
     call: &Call<'_>,
     heap: Global,
 ) -> (Card<S, A>, Done)
     ensures said { step keyed S.seals A.acts (off_state A.contents card) (call_of call.now) ≡ outcome (state_of A.contents result.0) (done_answer result.1) }
     ensures memory { (fill : ℕ) → Lent fill call.now result.1 }
 {
-    let mut card = card;
     match *call {
         Call::Load(text) => {
             let answer = Answer::Loaded(card.load(text));
@@ -60,18 +60,17 @@ fn call_off<S: Sealer, A: Application>(
     }
 }
 
-// A command, with a reply buffer and a work area made for it, all bytes the given one.
+// A command, with a reply buffer and a work area that the host lends it.
 fn commanded<S: Sealer, A: Application>(
     card: &mut Powered<S, A>,
     call: CommandCall<'_>,
-    fill: u8,
-    heap: Global,
+    host: Host,
 ) -> Result<Done, AllocError>
     ensures said { IfOk result (λ d. step keyed S.seals A.acts (on_state A.contents card.old) (call_of (Command call.entry)) ≡ outcome (on_state A.contents card.new) (done_answer d)) }
-    ensures memory { IfOk result (λ d. Lent fill (Command call.entry) d) }
+    ensures memory { IfOk result (λ d. Lent host.fill (Command call.entry) d) }
 {
-    let mut buffer = vec![in heap; fill; call.buffer]?;
-    let mut work = vec![in heap; fill; call.work]?;
+    let mut buffer = host.lend(call.buffer)?;
+    let mut work = host.lend(call.work)?;
     let result = card.command(call.apdu, call.random, &mut buffer, &mut work);
     Ok(Done {
         answer: Answer::Replied(result),
@@ -82,23 +81,23 @@ fn commanded<S: Sealer, A: Application>(
 
 // A call to a powered card.
 fn call_on<S: Sealer + Drop, A: Application + Drop>(
-    card: Powered<S, A>,
+    mut card: Powered<S, A>,
     call: &Call<'_>,
-    fill: u8,
-    heap: Global,
+    host: Host,
 ) -> Result<(Card<S, A>, Done), AllocError>
     ensures said { IfOk result (λ m. step keyed S.seals A.acts (on_state A.contents card) (call_of call.now) ≡ outcome (state_of A.contents m.0) (done_answer m.1)) }
-    ensures memory { IfOk result (λ m. Lent fill call.now m.1) }
+    ensures memory { IfOk result (λ m. Lent host.fill call.now m.1) }
 {
-    let mut card = card;
     match *call {
         Call::Command(command) => {
-            let done = commanded(&mut card, command, fill, heap)?;
+            let done = commanded(&mut card, command, host)?;
             Ok((Card::On(card), done))
         }
-        Call::PowerOff => Ok((Card::Off(card.power_off()), plain(Answer::Powered, heap))),
-        Call::PowerOn => Ok(not_taken(Card::On(card), call, heap)),
-        Call::Load(_) => Ok(not_taken(Card::On(card), call, heap)),
+        Call::PowerOff => Ok((
+            Card::Off(card.power_off()),
+            plain(Answer::Powered, host.heap),
+        )),
+        Call::PowerOn | Call::Load(_) => Ok(not_taken(Card::On(card), call, host.heap)),
     }
 }
 
@@ -106,14 +105,13 @@ fn call_on<S: Sealer + Drop, A: Application + Drop>(
 pub(crate) fn one<S: Sealer + Drop, A: Application + Drop>(
     card: Card<S, A>,
     call: &Call<'_>,
-    fill: u8,
-    heap: Global,
+    host: Host,
 ) -> Result<(Card<S, A>, Done), AllocError>
     ensures said { IfOk result (λ m. step keyed S.seals A.acts (state_of A.contents card) (call_of call.now) ≡ outcome (state_of A.contents m.0) (done_answer m.1)) }
-    ensures memory { IfOk result (λ m. Lent fill call.now m.1) }
+    ensures memory { IfOk result (λ m. Lent host.fill call.now m.1) }
 {
     match card {
-        Card::Off(card) => Ok(call_off(card, call, heap)),
-        Card::On(card) => call_on(card, call, fill, heap),
+        Card::Off(card) => Ok(call_off(card, call, host.heap)),
+        Card::On(card) => call_on(card, call, host),
     }
 }

@@ -10,12 +10,12 @@ loop-call-preserved g c =
     let d = c.in_ok-next.done in
     let pushed : vec_items c.push.new.self ≡ ds ++ (d ∷ []) = search rules in
     rw pushed
-    (goes_on g.S.Sealer.seals 𝓐.acts c.args.fill (state_of 𝓐.contents c.args.card) c.args.calls.now c.loop-call.call-index ds
+    (goes_on g.S.Sealer.seals 𝓐.acts c.args.host.fill (state_of 𝓐.contents c.args.card) c.args.calls.now c.loop-call.call-index ds
     (state_of 𝓐.contents c.loop-call.card) (state_of 𝓐.contents c.in_ok-next.next) _ d
     c.loop-call-test.true c.in_ok-next.ensures.said c.in_ok-next.ensures.memory c.loop-call.invariant)
 
 pub returns : goal.returns
 returns g c =
     let 𝓐 = g.A.Application in
-    followed g.S.Sealer.seals 𝓐.acts c.args.fill (state_of 𝓐.contents c.args.card) c.args.calls.now c.loop-call.call-index (vec_items c.loop-call.dones)
+    followed g.S.Sealer.seals 𝓐.acts c.args.host.fill (state_of 𝓐.contents c.args.card) c.args.calls.now c.loop-call.call-index (vec_items c.loop-call.dones)
     (state_of 𝓐.contents c.loop-call.card) c.loop-call-test.false c.loop-call.invariant
