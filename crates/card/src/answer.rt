@@ -42,13 +42,9 @@ impl<S: Sealer, A: Application> Powered<S, A> {
             Request::Discover(body) => Some(self.parts.core.discover(body)),
             Request::Answer(kind, body) => Some(self.parts.core.answer(kind, body)),
             Request::GoOn(kind, body) => Some(self.parts.core.go_on(kind, body)),
-            Request::Block(asked) => {
-                Some(Told::from(self.parts.block(asked.row, asked.p2, asked.body)))
-            }
-            Request::Fetch(asked) => { Some(self.parts.fetch(asked.row, asked.number, asked.body)) }
-            Request::Discard(asked) => {
-                Some(Told::from(self.parts.discard(asked.row, asked.body)))
-            }
+            Request::Block(asked) => Some(Told::from(self.parts.block(asked))),
+            Request::Fetch(asked) => Some(self.parts.fetch(asked)),
+            Request::Discard(asked) => Some(Told::from(self.parts.discard(asked))),
         }
     }
 }

@@ -8,12 +8,12 @@ use Rattle.transact.specs.declared.accepted.Refusal.TheVariants.{Wrong, Spent}
 
 -- The body of an accepted command.
 abbrev pub body_in : Accepted → List ℕ → List ℕ
-body_in t text = take t.len (drop t.at text)
+body_in t text = take t.opened.len (drop t.opened.at text)
 
 -- A token stands for this body under this number, and the count is below the limit.
 pub record Stands (b : List ℕ) (count limit : ℕ) (text : List ℕ) (t : Accepted) : Type 0 where
-  pub number : t.number ≡ count
-  pub inside : t.at + t.len ≤ length text
+  pub number : t.opened.number ≡ count
+  pub inside : t.opened.at + t.opened.len ≤ length text
   pub body : body_in t text ≡ b
   pub below : count < limit
 

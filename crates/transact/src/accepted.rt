@@ -12,13 +12,11 @@ use buffer::{Buffer, ROOM};
 use sealing::{Direction, Opened, Sealer, Text};
 use tables::Connection;
 
-// An accepted command that is not answered yet: its number, and where its body stands in the opened text. It cannot be let
-// go, copied or made elsewhere; only sealing its answer spends it.
+// An accepted command that is not answered yet: what opened. It cannot be let go, copied or made elsewhere; only sealing its
+// answer spends it.
 pub struct Accepted {
-    number: u64,
-    at: usize,
-    // The place and the length of its body, not the body: the text could not be used while the token lived.
-    len: usize,
+    // The places of its body, not the body: the text could not be used while the token lived.
+    opened: Opened,
 }
 
 // Why a complete command is not accepted.
@@ -42,16 +40,16 @@ impl Accepted {
         connection: &Connection,
         plain: &[u8],
     ) -> Buffer
-        requires { self.at + self.len ≤ length plain.now }
-        ensures answer { held result ≡ S.seals.sealed connection.now.suite connection.now.keys (text AsReply self.number (A.acts.reply (A.contents application.old) (body_in self plain.now))) }
+        requires { self.opened.at + self.opened.len ≤ length plain.now }
+        ensures answer { held result ≡ S.seals.sealed connection.now.suite connection.now.keys (text AsReply self.opened.number (A.acts.reply (A.contents application.old) (body_in self plain.now))) }
         ensures holds { A.contents application.new ≡ A.acts.next (A.contents application.old) (body_in self plain.now) }
     {
-        let Accepted { number, at, len } = self;
+        let Accepted { opened } = self;
         let mut reply = [0; REPLY];
-        let n = application.run(&plain[at..at + len], &mut reply);
+        let n = application.run(opened.body(plain).unwrap(), &mut reply);
         let text = Text {
             direction: Direction::Reply,
-            number,
+            number: opened.number,
             body: &reply[..n],
         };
         let mut answer = [0; ROOM];
@@ -76,18 +74,14 @@ pub fn accept<S: Sealer>(
 ) -> Result<Accepted, Refusal>
     ensures { Judges (judged S.seals (connection_of connection.now) limit plain.old) connection.now.count limit plain.new result }
 {
-    let Some(opened) = sealer.open(connection.suite, &connection.keys, plain) else {
-        return Err(Refusal::Wrong);
-    };
+    let opened = sealer
+        .open(connection.suite, &connection.keys, plain)
+        .ok_or(Refusal::Wrong)?;
     if !is_command(&opened, connection.count) {
         return Err(Refusal::Wrong);
     }
     if connection.count >= limit {
         return Err(Refusal::Spent);
     }
-    Ok(Accepted {
-        number: connection.count,
-        at: opened.at,
-        len: opened.len,
-    })
+    Ok(Accepted { opened })
 }

@@ -15,21 +15,22 @@ use crate::started::Started;
 use apdu::{Body, Status};
 use application::Application;
 use manage::Told;
+use request::{Discard, Fetch};
 use sealing::Sealer;
 use session::Session;
 use table_rows::Row;
 
 impl<S: Sealer, A: Application> Parts<S, A> {
     // P1 + 2: a discard makes the session idle.
-    pub fn discard(&mut self, row: Row, body: Body<'_>) -> Status
-        ensures step { carries S.seals A.acts (state_of self.old.core (A.contents self.old.application)) (discards (core_of self.old.core) row (shape_of body.entry) (slice_index_or (tables_of self.old.core.tables).connections row None)) ≡ ended self.new.core (A.contents self.new.application) result }
+    pub fn discard(&mut self, asked: Discard<'_>) -> Status
+        ensures step { carries S.seals A.acts (state_of self.old.core (A.contents self.old.application)) (discards (core_of self.old.core) asked.entry.row (shape_of asked.entry.body) (slice_index_or (tables_of self.old.core.tables).connections asked.entry.row None)) ≡ ended self.new.core (A.contents self.new.application) result }
         ensures sealer { self.new.sealer ≡ self.old.sealer }
         ensures application { self.new.application ≡ self.old.application }
     {
-        let Some(mut started) = Started::at(&self.core, row) else {
+        let Some(mut started) = Started::at(&self.core, asked.row) else {
             return Status::NotNow;
         };
-        if let Err(status) = started.session.discard(body) {
+        if let Err(status) = started.session.discard(asked.body) {
             return status;
         }
         started.go_on(&mut self.core);
@@ -37,9 +38,10 @@ impl<S: Sealer, A: Application> Parts<S, A> {
     }
 
     // P1 + 1: a block of the answer that a session holds.
-    pub fn fetch(&self, row: Row, number: u8, body: Body<'_>) -> Told
-        ensures { carries S.seals A.acts (state_of self.now.core (A.contents self.now.application)) (fetches (core_of self.now.core) row number (shape_of body.entry) (slice_index_or (tables_of self.now.core.tables).connections row None)) ≡ told self.now.core (A.contents self.now.application) result }
+    pub fn fetch(&self, asked: Fetch<'_>) -> Told
+        ensures { carries S.seals A.acts (state_of self.now.core (A.contents self.now.application)) (fetches (core_of self.now.core) asked.entry.row asked.entry.number (shape_of asked.entry.body) (slice_index_or (tables_of self.now.core.tables).connections asked.entry.row None)) ≡ told self.now.core (A.contents self.now.application) result }
     {
+        let Fetch { row, number, body } = asked;
         let Some(started) = Started::at(&self.core, row) else {
             return Told::from(Status::NotNow);
         };

@@ -12,11 +12,11 @@ ghost use Rattle.transact.specs.View.{state_of, ended, last_of};
 use crate::outcome::{said, taken};
 use crate::parts::Parts;
 use crate::started::Started;
-use apdu::{Body, Status};
+use apdu::Status;
 use application::Application;
+use request::Block;
 use sealing::Sealer;
 use session::Heard;
-use table_rows::Row;
 
 impl<S: Sealer, A: Application> Parts<S, A> {
     // A block that was joined to those before: the last one completes the command, any other is kept.
@@ -33,20 +33,20 @@ impl<S: Sealer, A: Application> Parts<S, A> {
     }
 
     // P1 + 0: a block in the session of a row. It wants a started session, and is joined, or repeats the last one, or is refused.
-    pub fn block(&mut self, row: Row, p2: u8, body: Body<'_>) -> Status
-        ensures step { carries S.seals A.acts (state_of self.old.core (A.contents self.old.application)) (blocks S.seals (core_of self.old.core) row p2 (shape_of body.entry) (slice_index_or (tables_of self.old.core.tables).connections row None)) ≡ ended self.new.core (A.contents self.new.application) result }
+    pub fn block(&mut self, asked: Block<'_>) -> Status
+        ensures step { carries S.seals A.acts (state_of self.old.core (A.contents self.old.application)) (blocks S.seals (core_of self.old.core) asked.entry.row asked.entry.p2 (shape_of asked.entry.body) (slice_index_or (tables_of self.old.core.tables).connections asked.entry.row None)) ≡ ended self.new.core (A.contents self.new.application) result }
         ensures sealer { self.new.sealer ≡ self.old.sealer }
     {
-        let Some(mut started) = Started::at(&self.core, row) else {
+        let Some(mut started) = Started::at(&self.core, asked.row) else {
             return Status::NotNow;
         };
-        let heard = match started.session.block(p2, body) {
+        let heard = match started.session.block(asked.p2, asked.body) {
             Ok(heard) => heard,
             Err(status) => return status,
         };
         match heard {
-            Heard::Joined => self.join(&started, p2),
-            _ => said(row, heard),
+            Heard::Joined => self.join(&started, asked.p2),
+            _ => said(asked.row, heard),
         }
     }
 }

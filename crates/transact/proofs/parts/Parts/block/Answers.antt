@@ -4,42 +4,33 @@ use Rattle.transact.specs.View.{ended}
 use Rattle.transact.proofs.Told.{block_unstarted, block_refused, block_said, block_joined}
 use Rattle.transact.proofs.parts.Parts.block.Goals as goal
 
-pub returns-in_default : goal.returns-in_default
-returns-in_default g c =
+pub returns-in_default-clause-step : goal.returns-in_default-clause-step
+returns-in_default-clause-step g c =
     let p = c.args.self.now in
-    record {
-      step = block_unstarted g.S.Sealer.seals g.A.Application.acts p.core (g.A.Application.contents p.application) c.args.row (shape_of c.args.body)
-          c.args.p2 (c.in_default.ensures.none refl);
-      sealer = refl;
-    }
+    block_unstarted g.S.Sealer.seals g.A.Application.acts p.core (g.A.Application.contents p.application) c.args.asked.row (shape_of c.args.asked.body)
+    c.args.asked.p2 (c.in_default.ensures.none refl)
 
-pub returns-in-Err : goal.returns-in-Err
-returns-in-Err g c =
+pub returns-in-Err-clause-step : goal.returns-in-Err-clause-step
+returns-in-Err-clause-step g c =
     let p = c.args.self.now in
-    record {
-      step = block_refused g.S.Sealer.seals g.A.Application.acts p.core (g.A.Application.contents p.application) c.args.row (shape_of c.args.body)
-          c.in-Some.started c.in-Some.ensures.some c.args.p2 c.in-Err.status c.in-Err.ensures.heard;
-      sealer = refl;
-    }
+    block_refused g.S.Sealer.seals g.A.Application.acts p.core (g.A.Application.contents p.application) c.args.asked.row (shape_of c.args.asked.body)
+    c.in-Some.started c.in-Some.ensures.some c.args.asked.p2 c.in-Err.status c.in-Err.ensures.heard
 
-pub returns-in-Joined : goal.returns-in-Joined
-returns-in-Joined g c =
+pub returns-in-Joined-clause-step : goal.returns-in-Joined-clause-step
+returns-in-Joined-clause-step g c =
     let p = c.args.self.now in
-    let st = c.in-Some.started in
-    record {
-      step = block_joined g.S.Sealer.seals g.A.Application.acts p.core (g.A.Application.contents p.application) c.args.row (shape_of c.args.body)
-          st c.in-Some.ensures.some c.block.new.self c.args.p2
-          (ended c.join.new.self.core (g.A.Application.contents c.join.new.self.application) c.join.result) (ap Ok (sym c.in-Joined.is) ∙ c.in-Ok.ensures.heard) c.in-Ok.ensures.after c.join.ensures.step;
-      sealer = c.join.ensures.sealer;
-    }
+    block_joined g.S.Sealer.seals g.A.Application.acts p.core (g.A.Application.contents p.application) c.args.asked.row (shape_of c.args.asked.body)
+    c.in-Some.started c.in-Some.ensures.some c.block.new.self c.args.asked.p2
+    (ended c.join.new.self.core (g.A.Application.contents c.join.new.self.application) c.join.result)
+    (ap Ok (sym c.in-Joined.is) ∙ c.in-Ok.ensures.heard) c.in-Ok.ensures.after c.join.ensures.step
 
 pub returns-in_default-heard : goal.returns-in_default-heard
 returns-in_default-heard g c =
     let p = c.args.self.now in
     let k = g.A.Application.contents p.application in
     record {
-      step = block_said g.S.Sealer.seals g.A.Application.acts p.core k c.args.row (shape_of c.args.body)
-          c.in-Some.started c.in-Some.ensures.some c.args.p2 c.in-Ok.heard c.in-Ok.ensures.heard c.in_default-heard.not-Joined
+      step = block_said g.S.Sealer.seals g.A.Application.acts p.core k c.args.asked.row (shape_of c.args.asked.body)
+          c.in-Some.started c.in-Some.ensures.some c.args.asked.p2 c.in-Ok.heard c.in-Ok.ensures.heard c.in_default-heard.not-Joined
           ∙ ap (ended p.core k) (sym c.said.ensures);
       sealer = refl;
     }
