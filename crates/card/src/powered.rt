@@ -56,7 +56,7 @@ impl<S: Sealer, A: Application> Powered<S, A> {
         Ok(self.answer_guarded(apdu, random, reply, work))
     }
 
-    // Answers a command, and wipes the work area on the way out.
+    // Answers a command, and wipes the work area on the way out: a slice, as the host lends it, since all of it is wiped.
     fn answer_guarded(
         &mut self,
         apdu: &[u8],
@@ -70,7 +70,7 @@ impl<S: Sealer, A: Application> Powered<S, A> {
         ensures wiped { work.new ≡ replicate (length work.old) 0 }
     {
         let area = WorkArea(work);
-        match self.told(apdu, random, area.0.first_chunk_mut::<64>().unwrap()) {
+        match self.told(apdu, random, area.0.first_chunk_mut::<WORK>().unwrap()) {
             Some(told) => told.write(reply),
             None => self.parts.application.run(apdu, reply),
         }

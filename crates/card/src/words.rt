@@ -33,7 +33,7 @@ impl From<HostRefusal> for u8 {
     }
 }
 
-// A text that gives no key.
+// A text that gives no key. Its cases stand among the card's own, which have words and numbers of their own.
 impl From<Refusal> for LoadRefusal {
     ghost from_gives = { λ r e. e ≡ refused_text r };
 

@@ -1,4 +1,5 @@
-// MANAGE SECURE CHANNEL: objects gathered from command blocks, carried out, and replies given in blocks.
+// MANAGE SECURE CHANNEL: objects gathered from command blocks, carried out, and replies given in blocks. A check that refuses
+// leaves at once with its status word, so the checks stand in the order in which they refuse.
 #![tactic(auto)]
 
 mod card_core;

@@ -1,4 +1,5 @@
-// TRANSACT DATA: blocks of sealed commands, and the answers to them.
+// TRANSACT DATA: blocks of sealed commands, and the answers to them. A check that refuses leaves at once with its status word,
+// so the checks stand in the order in which they refuse.
 #![tactic(auto)]
 
 mod accepted;
