@@ -6,4 +6,3 @@ pub mod Schedule
 pub mod Examples
 pub mod Permutation
 pub mod Chunks
-pub mod Mapped

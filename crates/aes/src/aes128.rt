@@ -1,5 +1,5 @@
 // AES-128 under a key.
-ghost use Rattle.std.specs.Prelude.{◌≡◌, length, refl};
+ghost use Rattle.std.specs.Prelude.{◌≡◌, refl};
 ghost use Rattle.aes.specs.KeyExpansion.{key_expansion};
 ghost use Rattle.aes.specs.Cipher.{encrypted, decrypted, aes_encrypt, aes_decrypt};
 ghost use Rattle.aes.specs.Words.{bytes_of};
@@ -15,7 +15,6 @@ use cipher::{BlockCipher, Wide};
 #[derive(Clone, Copy)]
 pub struct Aes128 {
     keys: [u32; 44],
-    ghost long: { length keys ≡ 44 },
 }
 
 impl Aes128 {

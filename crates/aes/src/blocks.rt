@@ -6,7 +6,7 @@ ghost use Rattle.aes.specs.Words.{bytes_of};
 use crate::round::{add_round_key, back, first_back, forward, last_forward};
 use crate::transfer::{state_of, write};
 
-// The eleven round keys of the expanded key.
+// The eleven round keys of the expanded key. A slice, as of an array of arrays that is lent the proof does not know the length.
 #[tactic(auto, using(crate::proofs::Rounds::round_key_words))]
 fn round_keys(keys: &[u32; 44]) -> &[[u32; 4]]
     ensures eleven { length result.now ≡ 11 }

@@ -15,6 +15,7 @@ use crate::state::State;
 pub fn add_round_key(s: State, key: &[u32; 4]) -> State
     ensures { state_bytes result ≡ xors (state_bytes s) (bytes_of key.now) }
 {
+    // By `array::from_fn` the proof leaves open what its four calls give as a list.
     let [a, b, c, d] = s.0;
     State([a ^ key[0], b ^ key[1], c ^ key[2], d ^ key[3]])
 }

@@ -5,6 +5,8 @@ ghost use Rattle.aes.specs.Columns.{state_bytes};
 
 use crate::state::State;
 
+// The two below are functions of this crate: `map` learns nothing of what a closure gives here, nor another crate's function.
+
 // The word of four bytes.
 fn word(bytes: [u8; 4]) -> u32
     ensures { octets 4 result ≡ bytes }

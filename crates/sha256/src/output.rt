@@ -5,7 +5,8 @@ ghost use Rattle.sha256.specs.Digest.{written};
 
 use compression::Eight;
 
-// A word as four bytes, the highest first.
+// A word as four bytes, the highest first. A function of this crate, as AES has its own: `map` learns nothing of what a closure
+// gives here, nor another crate's function.
 fn four_of(word: u32) -> [u8; 4]
     ensures { result ≡ octets 4 word }
 {
