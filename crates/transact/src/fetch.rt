@@ -60,7 +60,8 @@ fn is_enough(len: usize, body: Body<'_>) -> bool
         .is_some_and(|le| len <= usize::from(le.wanted))
 }
 
-// Gives a block of the answer that a session holds: one that is absent is refused first, then a wrong length.
+// Gives a block of the answer that a session holds: one that is absent is refused first, then a wrong length. It takes what was
+// asked by parts, since the check finds no type of `Le` in a private function that is given a Fetch whole.
 fn give(session: &Session, row: Row, number: u8, body: Body<'_>) -> Told
     ensures { bytes_of result ≡ block_given row (shape_of body.entry) (cut_block session.now.container (answer_in session.now.talk) number) }
 {

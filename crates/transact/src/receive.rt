@@ -40,6 +40,7 @@ impl<S: Sealer, A: Application> Parts<S, A> {
         let Some(mut started) = Started::at(&self.core, asked.row) else {
             return Status::NotNow;
         };
+        // Matched apart from what follows: an arm `Ok(heard)` behind `Ok(Heard::Joined)` would not know that nothing was joined.
         let heard = match started.session.block(asked.p2, asked.body) {
             Ok(heard) => heard,
             Err(status) => return status,
