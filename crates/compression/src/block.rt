@@ -8,7 +8,8 @@ use crate::tables::constants;
 use crate::words::{choose, lower_one, lower_zero, majority, upper_one, upper_zero};
 
 // Writes the sixteen words of a block to the front of a schedule, each of four bytes with the highest first. By their places:
-// mapped as an array and copied, they cost a quarter more time, and of a `zip` with `iter_mut` no proof knows what it leaves.
+// of a `zip` with `iter_mut` no proof knows what it leaves, and as a mapped array they would be made elsewhere and copied here, in
+// a quarter more time.
 fn parse(block: &[u8; 64], w: &mut [u32; 64])
     ensures { take 16 w.new ≡ parsed 16 block.now }
 {

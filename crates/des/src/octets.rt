@@ -1,4 +1,5 @@
-// Blocks and keys of eight bytes as words, the highest byte first.
+// Blocks and keys of eight bytes as words, the highest byte first. The library's conversions, with what they say of eight places
+// said as `number` and `octets`: where a block or a key is converted in place, the check does not find that.
 ghost use Rattle.std.specs.Prelude.{◌≡◌};
 ghost use Rattle.byte_lists.specs.Numbers.{octets, number};
 

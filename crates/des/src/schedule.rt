@@ -32,7 +32,8 @@ pub fn expand(key: u64) -> [u64; 16]
     let halves = first_choice(key);
     let mut c = halves / 0x1000_0000;
     let mut d = halves % 0x1000_0000;
-    // By `SHIFTS.map`, with halves that its closure changes, the keys take 700 bytes more of the stack, and a key is set up slower.
+    // A loop, as the halves go on from key to key: by `SHIFTS.map` a closure would have to change them, and the keys would take 700
+    // bytes more of the stack.
     let mut keys = [0u64; 16];
     for (i, by) in SHIFTS.iter().enumerate() {
         c = shift(c, *by);

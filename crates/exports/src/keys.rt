@@ -28,7 +28,8 @@ fn des_at(key: &[u8; 24], at: usize) -> Des
     Des::new(key[at..at + 8].as_array().unwrap())
 }
 
-// Triple DES under twenty-four key bytes.
+// Triple DES under twenty-four key bytes. The sealer makes one of its own forty: each says it in the words of its interface, and
+// one function for both would state an equation of its own, to be turned into either.
 pub fn triple_of(key: &[u8; 24]) -> Triple<Des>
     ensures encrypts { in_turn (encrypts result.first.keys) (decrypts result.second.keys) (encrypts result.third.keys) ≡ triple_encrypt key.now }
     ensures decrypts { in_turn (decrypts result.third.keys) (encrypts result.second.keys) (decrypts result.first.keys) ≡ triple_decrypt key.now }

@@ -5,24 +5,21 @@ ghost use Rattle.sealer_c.specs.declared.refusal.Refusal.TheVariants.{Unfit};
 
 use sealing::UnknownByte;
 
-// Why a call is refused.
+// Why a call is refused, and the number that the caller gets: 7 and 8 are the C interface's.
 #[derive(Clone, Copy, PartialEq, Eq, Debug)]
 pub enum Refusal {
     // An unknown suite or direction, or a length that does not fit.
-    Unfit,
+    Unfit = 7,
     // A string that does not open.
-    Shut,
+    Shut = 8,
 }
 
-// The number that the caller gets. The numbers 7 and 8 are the C interface's.
+// That number.
 impl From<Refusal> for usize {
     ghost from_gives = { λ refusal n. n ≡ refusal_number refusal };
 
     fn from(refusal: Refusal) -> usize {
-        match refusal {
-            Refusal::Unfit => 7,
-            Refusal::Shut => 8,
-        }
+        refusal as usize
     }
 }
 
