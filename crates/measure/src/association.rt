@@ -37,7 +37,7 @@ fn agreement(key: &[u8], channel: &Channel) -> [u8; 32] {
             &[AES.offer.ciphers, AES.offer.mechanisms],
             channel.connection.id(),
             &channel.nonce,
-            &[0x04, 0x04],
+            &[u8::from(AES.suite.cipher), u8::from(AES.suite.mechanism)],
         ],
     )
 }

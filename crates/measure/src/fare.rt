@@ -34,14 +34,13 @@ fn strings(heap: Global, channel: &Channel) -> anyhow::Result<Vec<Vec<u8>>> {
     Ok(all)
 }
 
-// The commands that carry them; in a loop, since each may fail in two ways.
+// The commands that carry them.
 fn blocks(heap: Global, channel: &Channel, strings: &[Vec<u8>]) -> anyhow::Result<Vec<Vec<u8>>> {
-    let mut all = Vec::new(heap);
-    for string in strings {
+    let blocks = strings.iter().map(|string| {
         let block = channel.session.block(heap, string.as_slice(), 0)?;
-        all.push(block.context("a sealed fare needs more than one block")?)?;
-    }
-    Ok(all)
+        block.context("a sealed fare needs more than one block")
+    });
+    blocks.collect(heap)?
 }
 
 // Sends each block and fetches its answer; two sendings a turn read best in a loop. The sum of the lengths of all replies.

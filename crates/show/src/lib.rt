@@ -20,11 +20,12 @@ pub struct Reply<'a>(pub &'a [u8]);
 
 impl fmt::Display for SpacedPairs<'_> {
     fn fmt<W: fmt::Write>(&self, f: &mut fmt::Formatter<W>) -> fmt::Result {
-        for (i, byte) in self.0.iter().enumerate() {
-            if i > 0 {
-                f.write_str(" ")?;
-            }
-            write!(f, "{byte:02X}")?;
+        let Some((first, rest)) = self.0.split_first() else {
+            return Ok(());
+        };
+        write!(f, "{first:02X}")?;
+        for byte in rest {
+            write!(f, " {byte:02X}")?;
         }
         Ok(())
     }

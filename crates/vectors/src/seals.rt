@@ -8,7 +8,7 @@ use std::alloc::Global;
 // The sealed string of a text.
 pub fn sealed(heap: Global, suite: Suite, keys: &[u8], text: &[u8]) -> Outcome {
     let keys = exactly::<40>(keys)?;
-    if text.len() < 11 || text.len() > 270 {
+    if !(11..=270).contains(&text.len()) {
         return Err(Fault::OtherLength);
     }
     let direction = Direction::try_from(text[0]).map_err(|_unknown| Fault::OtherLength)?;

@@ -19,7 +19,7 @@ fn bytes(heap: Global, text: &str) -> Result<Vec<u8>, Fault> {
     let Some((once, times)) = text.split_once('*') else {
         return unhex(heap, text)?.ok_or(Fault::NotAVector);
     };
-    let times = times.parse::<u32>().ok().ok_or(Fault::NotAVector)?;
+    let times = times.parse::<u32>().map_err(|_error| Fault::NotAVector)?;
     let once = unhex(heap, once)?.ok_or(Fault::NotAVector)?;
     Ok(once.as_slice().repeat(heap, times as usize)?)
 }
@@ -28,14 +28,8 @@ impl<'a> Vector<'a> {
     // Reads a line of four words.
     pub fn read(heap: Global, line: &'a str) -> Result<Vector<'a>, Fault> {
         let mut words = line.split_whitespace();
-        let (Some(name), Some(key), Some(input), Some(expected)) = (
-            words.next(),
-            words.next(),
-            words.next(),
-            words.next(),
-        ) else {
-            return Err(Fault::NotAVector);
-        };
+        let mut word = || words.next().ok_or(Fault::NotAVector);
+        let (name, key, input, expected) = (word()?, word()?, word()?, word()?);
         Ok(Vector {
             name,
             algorithm: name.parse()?,
