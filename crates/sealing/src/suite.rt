@@ -6,23 +6,23 @@ ghost use Rattle.sealing.specs.Suites.{cipher_byte, cipher_of, mechanism_byte, m
 use std::error::Error;
 use std::fmt;
 
-// The ciphers of a suite.
+// The ciphers of a suite, each with its byte.
 #[derive(Clone, Copy, PartialEq, Eq, Debug)]
 pub enum Cipher {
     // Triple DES whose third key is its first.
-    TwoKey,
+    TwoKey = 0x01,
     // Triple DES with three keys.
-    ThreeKey,
+    ThreeKey = 0x02,
     // AES with a key of 128 bits.
-    Aes,
+    Aes = 0x04,
 }
 
-// The integrity mechanisms of a suite.
+// The integrity mechanisms of a suite, each with its byte.
 #[derive(Clone, Copy, PartialEq, Eq, Debug)]
 pub enum Mechanism {
-    Crc32,
+    Crc32 = 0x01,
     // CMAC with AES-128.
-    Cmac,
+    Cmac = 0x04,
 }
 
 // A cipher and a mechanism.
@@ -32,11 +32,11 @@ pub struct Suite {
     pub mechanism: Mechanism,
 }
 
-// Which way a text goes.
+// Which way a text goes, each with its byte.
 #[derive(Clone, Copy, PartialEq, Eq, Debug)]
 pub enum Direction {
-    Command,
-    Reply,
+    Command = 0x00,
+    Reply = 0x01,
 }
 
 // A byte that stands for no cipher, no mechanism or no direction.
@@ -53,18 +53,14 @@ impl fmt::Display for UnknownByte {
 
 impl Error for UnknownByte {}
 
-// The three pairs of tables differ in all but their shape; each is an impl of two traits of std.
+// The three pairs differ in all but their shape; each is an impl of two traits of std.
 
 // The byte that stands for the cipher.
 impl From<Cipher> for u8 {
     ghost from_gives = { λ c b. b ≡ cipher_byte c };
 
     fn from(cipher: Cipher) -> u8 {
-        match cipher {
-            Cipher::TwoKey => 0x01,
-            Cipher::ThreeKey => 0x02,
-            Cipher::Aes => 0x04,
-        }
+        cipher as u8
     }
 }
 
@@ -89,10 +85,7 @@ impl From<Mechanism> for u8 {
     ghost from_gives = { λ m b. b ≡ mechanism_byte m };
 
     fn from(mechanism: Mechanism) -> u8 {
-        match mechanism {
-            Mechanism::Crc32 => 0x01,
-            Mechanism::Cmac => 0x04,
-        }
+        mechanism as u8
     }
 }
 
@@ -116,10 +109,7 @@ impl From<Direction> for u8 {
     ghost from_gives = { λ d b. b ≡ direction_byte d };
 
     fn from(direction: Direction) -> u8 {
-        match direction {
-            Direction::Command => 0x00,
-            Direction::Reply => 0x01,
-        }
+        direction as u8
     }
 }
 
