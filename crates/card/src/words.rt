@@ -7,29 +7,21 @@ use personalise::Refusal;
 use std::error::Error;
 use std::fmt;
 
-// The number by which the card answers it; an accepted load is 0.
+// Its number.
 impl From<LoadRefusal> for u8 {
     ghost from_gives = { λ e n. n ≡ load_number_of e };
 
     fn from(refusal: LoadRefusal) -> u8 {
-        match refusal {
-            LoadRefusal::Malformed => 1,
-            LoadRefusal::Unset => 2,
-            LoadRefusal::AlreadyHeld => 3,
-            LoadRefusal::NoRow => 4,
-        }
+        refusal as u8
     }
 }
 
-// The number by which the card answers it.
+// Its number.
 impl From<HostRefusal> for u8 {
     ghost from_gives = { λ e n. n ≡ host_number e };
 
     fn from(refusal: HostRefusal) -> u8 {
-        match refusal {
-            HostRefusal::ShortMemory => 5,
-            HostRefusal::RandomBytes => 6,
-        }
+        refusal as u8
     }
 }
 
