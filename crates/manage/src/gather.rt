@@ -54,6 +54,7 @@ impl Core {
             }
         }
     }
+
     // A whole object is carried out.
     fn carry_out(&mut self, kind: Kind, value: &[u8], lent: Lent<'_>) -> Status
         ensures { Said (decides keyed (core_of self.old) lent.entry.random.now (kind_of kind) (asked (kind_of kind) value.now) (verdict keyed (tables_of self.old.tables) lent.entry.random.now (asked (kind_of kind) value.now))) self.old self.new result }
@@ -80,6 +81,7 @@ impl Core {
             Ok(value) => self.carry_out(kind, value, lent),
         }
     }
+
     // A command block: data alone joins what was gathered, and drops whatever else was pending.
     fn join(&mut self, kind: Kind, gathered: &[u8], body: Body<'_>, lent: Lent<'_>) -> Status
         requires { length gathered.now ≤ 288 }

@@ -37,6 +37,7 @@ impl Core {
         };
         Told::block(block.bytes, end)
     }
+
     // A reply block carries Le alone.
     fn give(&mut self, waiting: Waiting, body: Body<'_>) -> Told
         ensures { Replied (gives_reply (core_of self.old) (kind_of waiting.kind) (held waiting.reply) waiting.given (shape_of body.entry)) self.old self.new result }
@@ -53,6 +54,7 @@ impl Core {
     {
         Told::from(status)
     }
+
     // P1 is to be that of the reply that waits.
     fn give_as(&mut self, kind: Kind, waiting: Waiting, body: Body<'_>) -> Told
         ensures { Replied (replies_as (core_of self.old) (kind_of kind) (held waiting.reply) waiting.given (shape_of body.entry) (same_kind (kind_of waiting.kind) (kind_of kind))) self.old self.new result }

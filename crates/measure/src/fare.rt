@@ -23,7 +23,7 @@ const FARE: Fare = Fare {
     amount: 300,
 };
 
-// The sealed strings of a burst, in order; in a loop, since sealing may fail and the count goes on with it.
+// The sealed strings of a burst, in order; in a loop, since each turn also counts the connection on.
 fn strings(heap: Global, channel: &Channel) -> anyhow::Result<Vec<Vec<u8>>> {
     let mut connection = channel.connection;
     let mut all = Vec::new(heap);

@@ -22,7 +22,8 @@ pub struct Pair<S, L, R> {
     pub right: Card<S, R>,
 }
 
-// Two cards after a run, and what each call came to on either.
+// Two cards after a run, and what each call came to on either: a list for each card, since each is run by itself and the law
+// speaks of both lists.
 #[derive(Drop)]
 pub struct Ran<S, L, R> {
     pub pair: Pair<S, L, R>,

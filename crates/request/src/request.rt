@@ -25,7 +25,8 @@ pub struct Discard<'a> {
     pub body: Body<'a>,
 }
 
-// What an APDU asks of the card.
+// What an APDU asks of the card. A kind and a body stand side by side: the card asks each apart, so a struct of the two would be
+// taken apart at once.
 #[derive(Clone, Copy)]
 pub enum Request<'a> {
     // No APDU.

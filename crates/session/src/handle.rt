@@ -29,7 +29,8 @@ impl Session {
         Ok(Heard::Joined)
     }
 
-    // A block, by state: gathering joins it, and an answered session knows the block that completed its command.
+    // A block, by state: gathering joins it, and an answered session knows the block that completed its command. P2 and body are
+    // two arguments, since the `Block` of a request has a row beside them, which a session does not know.
     pub fn block(&mut self, p2: u8, body: Body<'_>) -> Result<Heard, Status>
         ensures heard { result ≡ (heard self.old.container (talk_of self.old.talk) (block p2 (shape_of body.entry))).0 }
         ensures after { session_of (Some self.new) ≡ started self.old.container (heard self.old.container (talk_of self.old.talk) (block p2 (shape_of body.entry))).1 }

@@ -29,8 +29,8 @@ impl Row {
         Row { number: p1 / 64 }
     }
 
-    // The row of this number; none where there is no such row. (An `if`: the closure that `then` takes would ask for the bound in
-    // a clause of its own.)
+    // The row of this number; none where there is no such row, which is all that an error of `TryFrom` could say. (An `if`: the
+    // closure that `then` takes would ask for the bound in a clause of its own.)
     pub fn at(number: usize) -> Option<Row>
         ensures { result ≡ (if nat_lt number 4 then Some number else None) }
     {

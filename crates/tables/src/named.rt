@@ -22,7 +22,7 @@ pub trait Named: Copy {
 
     ghost seen_in: { law.Tables → List (Option Seen) };
 
-    // Whether it has this name.
+    // Whether it has this name. Masters and connections answer alike, each by a field of its own.
     fn is_called(&self, name: &[u8]) -> bool
         ensures { result ≡ called name.now (seen self.now) };
 

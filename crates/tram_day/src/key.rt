@@ -5,7 +5,7 @@ use personalise::{KeyLoad, read};
 use show::SpacedPairs;
 use std::{env, fs};
 
-// The text of the load.
+// The text of the load; day reads its own by the same two calls.
 fn text(rt: &HostRuntime) -> anyhow::Result<Vec<u8>> {
     let path = env::args(rt)?
         .nth(1)

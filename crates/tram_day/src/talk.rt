@@ -23,7 +23,8 @@ pub struct Sent {
 }
 
 impl Channel<'_, '_> {
-    // Sends a sealed string, block by block.
+    // Sends a sealed string, block by block. The loop is over the numbers themselves, here and in `fetch`: a terminal makes a
+    // command by its block's number, and the card's answers say where the blocks end.
     pub fn send(&mut self, string: &[u8]) -> anyhow::Result<Sent> {
         let heap = self.cards.rt.alloc();
         let mut last = Vec::new(heap);

@@ -42,7 +42,8 @@ fn sum_of(reply: &[u8]) -> Option<u64> {
 }
 
 impl Channel<'_, '_> {
-    // A command under seal.
+    // A command under seal. The bounds stand here and at `deliver`: every command is an array, whose length is known where it is
+    // made, so a type that carries them would be made for the one call.
     fn seal(&self, command: &[u8]) -> Result<Vec<u8>, AllocError>
         requires least { 2 ≤ length command.now }
         requires most { length command.now ≤ 261 }
