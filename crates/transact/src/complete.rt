@@ -31,7 +31,8 @@ impl<S: Sealer, A: Application> Parts<S, A> {
             .tables
             .transactions_limit(started.connection.master);
         let joined = started.session.joined();
-        // Room of its own, not a store: opening writes in it, and a store lends its bytes for reading alone.
+        // Room of its own, not a store: opening writes in it, and a store lends its bytes for reading alone. (To lend them for
+        // writing, a store would have to promise by `Lends` how its array ends.)
         let mut room = [0; ROOM];
         let plain = &mut room[..joined.len()];
         plain.copy_from_slice(joined);
