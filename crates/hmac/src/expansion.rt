@@ -19,6 +19,7 @@ fn string(code: Hmac, before: &[u8], seed: &[&[u8]], number: u8) -> [u8; 32]
 }
 
 // Writes the 64 bytes T1 ‖ T2 of a key and of a seed in parts. T1 has nothing before it, and T2 has T1.
+// Into the caller's memory, and no array as an answer: the caller has it wiped.
 pub fn expand(key: &[u8], seed: &[&[u8]], area: &mut [u8; 64])
     ensures { area.new ≡ expanded key.now (flat_map (λ part. part.now) seed.now) }
 {
