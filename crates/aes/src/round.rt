@@ -65,6 +65,7 @@ fn shifted_back(s: State) -> State
 }
 
 // InvMixColumns.
+#[tactic(auto, using(crate::proofs::FourColumns::mixed_back_made))]
 fn mixed_back(s: State) -> State
     ensures { state_bytes result ≡ inv_mix_columns (state_bytes s) }
 {

@@ -1,5 +1,5 @@
 -- A digest is 32 bytes.
-use Rattle.std.proofs.Common.{◌≡◌, ℕ, suc, ◌*◌, ◌/◌, ◌<◌, List, [], ◌∷◌, ◌++◌, length, get_or, refl, ap, ◌∙◌, arith, length-append}
+use Rattle.std.proofs.Common.{◌≡◌, ℕ, ◌*◌, ◌/◌, List, [], ◌∷◌, length, arith, length-append}
 use Rattle.std.specs.List.{flat_map}
 use Rattle.byte_lists.specs.Bytes.{Bytes}
 use Rattle.byte_lists.specs.Numbers.{octets}
@@ -27,12 +27,3 @@ length_digest m = length_words (in_order (hashed (length (padded m) / 64) (padde
 pub bytes_digest : (m : List ℕ) → Bytes (digest m)
 unfolding digest
 bytes_digest m = bytes_words (in_order (hashed (length (padded m) / 64) (padded m)))
-
--- Words that were written one by one.
-pub flat_written : (ws : List ℕ) (fours : List (List ℕ)) → length fours ≡ length ws → ((i : ℕ) → i < length ws → get_or fours i [] ≡ octets 4 (get_or ws i 0)) → flat_map (λ xs. xs) fours ≡ flat_map (octets 4) ws
-flat_written [] [] l at = refl
-flat_written [] (f ∷ fs) l at = absurd (omega arith)
-flat_written (w ∷ ws) [] l at = absurd (omega arith)
-flat_written (w ∷ ws) (f ∷ fs) l at =
-    ap (λ xs. xs ++ flat_map (λ ys. ys) fs) (at 0 (omega arith))
-    ∙ ap (λ xs. octets 4 w ++ xs) (flat_written ws fs (omega arith) (λ i h. at (suc i) (omega arith)))

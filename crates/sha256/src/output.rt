@@ -7,6 +7,7 @@ use compression::Eight;
 
 // A word as four bytes, the highest first. A function of this crate, as AES has its own: `map` learns nothing of what a closure
 // gives here, nor another crate's function.
+#[tactic(auto, using(byte_lists::proofs::Digits::octets_four))]
 fn four_of(word: u32) -> [u8; 4]
     ensures { result ≡ octets 4 word }
 {

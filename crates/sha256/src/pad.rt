@@ -19,6 +19,7 @@ fn bit_count(count: u64) -> u64
 }
 
 // The number of bits in so many bytes, as 8 bytes.
+#[tactic(auto, using(byte_lists::proofs::Digits::octets_eight))]
 pub fn bits(count: u64) -> [u8; 8]
     ensures { result ≡ octets 8 (8 * count) }
 {
