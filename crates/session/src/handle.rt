@@ -43,7 +43,8 @@ impl Session {
         }
     }
 
-    // A fetch wants an answer that is held, and changes nothing.
+    // A fetch wants an answer that is held, and changes nothing. Heard is answered here and by a discard too, though each has one
+    // case of it: what is heard of all three is one function of the rules.
     pub fn fetch(&self) -> Result<Heard, Status>
         ensures { result ≡ (heard self.now.container (talk_of self.now.talk) fetch).0 }
     {
