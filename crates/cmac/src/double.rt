@@ -5,6 +5,7 @@ ghost use Rattle.cmac.specs.Cmac.{shifted, doubled};
 use crate::blocks::BLOCK;
 
 // A byte shifted left by one bit, with the highest bit of the byte behind it.
+#[tactic(auto, using(crate::specs::Shift::or_behind))]
 fn shifted_byte(byte: u8, behind: u8) -> u8
     ensures { result ≡ byte * 2 % 256 + behind / 128 }
 {

@@ -56,6 +56,7 @@ fn second_of(v: Eight) -> u32
 }
 
 // One round, with its constant and its word.
+#[tactic(auto, unfolding(crate::specs::Compression::round_of))]
 fn round(k: u32, w: u32, v: Eight) -> Eight
     ensures { result ≡ round_of k w v }
 {
@@ -99,6 +100,7 @@ fn rounds(w: &[u32; 64], v: Eight) -> Eight
 }
 
 // The sums of eight words with eight others. Letter by letter: by way of arrays it is no shorter, since the letters come back.
+#[tactic(auto, unfolding(crate::specs::Compression::sums))]
 fn add(u: Eight, v: Eight) -> Eight
     ensures { result ≡ added u v }
 {

@@ -12,6 +12,7 @@ use integrity::Integrity;
 pub struct Crc32;
 
 // The state with the eight bits of its lowest byte divided.
+#[tactic(auto, using(crate::proofs::Division::eight_bits))]
 fn divide_byte(state: u32) -> u32
     ensures { result ≡ bits 8 state }
 {

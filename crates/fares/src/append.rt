@@ -11,6 +11,7 @@ use apdu::Status;
 
 impl FareCounter {
     // A counter that holds no fare: from here on it counts, whatever commands it is given.
+    #[tactic(auto, using(crate::proofs::Books::counts_fares))]
     pub fn new() -> FareCounter
         ensures blank { fares_of result ≡ [] }
         ensures counts { CountsFares counting (fares_of result) }

@@ -22,6 +22,7 @@ fn place(number: u8) -> Option<usize>
 
 impl RecordFile {
     // A file of zero bytes: from here on it keeps what is written, whatever commands it is given.
+    #[tactic(auto, using(crate::proofs::Line::keeps_records))]
     pub fn new() -> RecordFile
         ensures blank { records_of result ≡ blank }
         ensures keeps { KeepsRecords keeps (records_of result) }
