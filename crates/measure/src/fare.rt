@@ -43,7 +43,7 @@ fn blocks(heap: Global, channel: &Channel, strings: &[Vec<u8>]) -> anyhow::Resul
     blocks.collect(heap)?
 }
 
-// Sends each block and fetches its answer; two sendings a turn read best in a loop. The sum of the lengths of all replies.
+// Sends each block and fetches its answer. The sum of the lengths of all replies.
 fn ride(
     card: &mut Powered<RealSealer, FareCounter>,
     blocks: &[Vec<u8>],
@@ -51,35 +51,31 @@ fn ride(
     host: &mut Host,
 ) -> Result<usize, HostRefusal> {
     let random = [7; 32];
-    let mut sum = 0usize;
-    for block in blocks {
-        sum = sum.wrapping_add(send(card, block.as_slice(), &random, host)?);
-        sum = sum.wrapping_add(send(card, fetch, &random, host)?);
-    }
-    Ok(sum)
+    blocks.iter().try_fold(0usize, |sum, block| {
+        let taken = send(card, block.as_slice(), &random, host)?;
+        let fetched = send(card, fetch, &random, host)?;
+        Ok(sum.wrapping_add(taken).wrapping_add(fetched))
+    })
 }
 
-// Opens each string in place and seals an answer to it; in a loop, since each turn writes to the string and the answer. The sum
-// of the lengths of all bodies and answers; none where a string does not open.
+// Opens each string in place and seals an answer to it. The sum of the lengths of all bodies and answers; none where a string
+// does not open.
 fn seals(
     suite: Suite,
     keys: &[u8; 40],
     strings: &mut [Vec<u8>],
     answer: &mut [u8; 288],
 ) -> Option<usize> {
-    let mut sum = 0usize;
-    for string in strings {
+    strings.iter_mut().try_fold(0usize, |sum, string| {
         let opened = RealSealer.open(suite, keys, string.as_mut_slice())?;
-        sum = sum.wrapping_add(opened.len);
         let reply = Text {
             direction: Direction::Reply,
             number: opened.number,
             body: &KEPT,
         };
         let sealed = RealSealer.seal(suite, keys, reply, answer);
-        sum = sum.wrapping_add(sealed);
-    }
-    Some(sum)
+        Some(sum.wrapping_add(opened.len).wrapping_add(sealed))
+    })
 }
 
 // The sealer's keys of a channel, which the terminal keeps to itself.
