@@ -10,7 +10,8 @@ use aes::Aes128;
 use cipher::Triple;
 use des::Des;
 
-// AES under sixteen key bytes. They come as a slice: where a closure makes an array of them, its proof leaves open whose key it is.
+// AES under sixteen key bytes. They come as a slice: a closure that makes both the array and the cipher leaves
+// open, in the proofs of the two calls, whose key it is.
 pub fn aes_of(key: &[u8]) -> Aes128
     requires { length key.now ≡ 16 }
     ensures encrypts { encrypted (bytes_of result.keys) ≡ aes_encrypt key.now }
