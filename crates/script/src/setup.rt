@@ -31,7 +31,7 @@ pub struct Setup {
 #[derive(Clone, Copy, PartialEq, Eq, Debug)]
 pub struct NoSuchWord;
 
-// `Kept` and `Seals` are read alike: what each says is its words alone.
+// `Kept` and `Seals` are read alike, two words each: a table of words to share would be longer than the two matches.
 impl FromStr for Kept {
     type Err = NoSuchWord;
 
