@@ -32,7 +32,7 @@ impl Aes128 {
 impl BlockCipher for Aes128 {
     const BLOCK: usize = 16;
 
-    ghost size = { 16 };
+    ghost BLOCK = { 16 };
 
     ghost enc = { λ c b. encrypted (bytes_of c.keys) b };
 
@@ -44,10 +44,6 @@ impl BlockCipher for Aes128 {
         let w = bytes_of k.keys in
         let h = bytes_of_words k.keys in
         record { forth = encrypted_block w h; back = decrypted_block w h; undoes = decrypted_encrypted w h; redoes = encrypted_decrypted w h } };
-
-    fn block_len() -> usize {
-        Self::BLOCK
-    }
 
     fn encrypt(&self, block: &mut [u8]) {
         encrypt_block(&self.keys, block.as_mut_array().unwrap());

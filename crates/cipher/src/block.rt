@@ -7,27 +7,23 @@ pub trait BlockCipher {
     // The length of a block.
     const BLOCK: usize;
 
-    ghost size: { ℕ };
+    ghost BLOCK: { ℕ };
 
     ghost enc: { Self → List ℕ → List ℕ };
 
     ghost dec: { Self → List ℕ → List ℕ };
 
-    // The length of a block, tied to `size`, which all users' clauses name: a ghost `BLOCK` there would read no plainer.
-    fn block_len() -> usize
-        ensures { result ≡ size };
-
     // Encrypts the block in place: a slice, as a type parameter's constant gives no array its length.
     fn encrypt(&self, block: &mut [u8])
-        requires { length block.old ≡ size }
+        requires { length block.old ≡ BLOCK }
         ensures { block.new ≡ enc self.now block.old };
 
     // Decrypts the block in place.
     fn decrypt(&self, block: &mut [u8])
-        requires { length block.old ≡ size }
+        requires { length block.old ≡ BLOCK }
         ensures { block.new ≡ dec self.now block.old };
 
-    ghost sizes: { (size ≡ 8) ⊎ (size ≡ 16) };
+    ghost sizes: { (BLOCK ≡ 8) ⊎ (BLOCK ≡ 16) };
 
-    ghost permutes: { (k : Self) → Permutes size (enc k) (dec k) };
+    ghost permutes: { (k : Self) → Permutes BLOCK (enc k) (dec k) };
 }

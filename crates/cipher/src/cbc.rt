@@ -26,7 +26,7 @@ fn chain<F: Fn(&mut [u8], &mut [u8])>(text: &mut [u8], n: usize, link: F)
 
 // A block is joined with the ciphertext before it, and encrypted; it then stands before the next one.
 fn link<C: BlockCipher>(cipher: &C, before: &mut [u8], block: &mut [u8])
-    requires { (length before.old ≡ C.size) × (length block.old ≡ C.size) }
+    requires { (length before.old ≡ C.BLOCK) × (length block.old ≡ C.BLOCK) }
     ensures now { block.new ≡ forth (C.enc cipher.now) before.old block.old }
     ensures next { before.new ≡ forth (C.enc cipher.now) before.old block.old }
 {
@@ -37,11 +37,11 @@ fn link<C: BlockCipher>(cipher: &C, before: &mut [u8], block: &mut [u8])
 
 // A block is decrypted and joined with the ciphertext before it; as it was, it stands before the next one.
 fn unlink<C: BlockCipher>(cipher: &C, before: &mut [u8], block: &mut [u8])
-    requires { (length before.old ≡ C.size) × (length block.old ≡ C.size) }
+    requires { (length before.old ≡ C.BLOCK) × (length block.old ≡ C.BLOCK) }
     ensures now { block.new ≡ back (C.dec cipher.now) before.old block.old }
     ensures next { before.new ≡ itself before.old block.old }
 {
-    let n = C::block_len();
+    let n = C::BLOCK;
     // Of fixed size too, of which n bytes count.
     let mut kept = [0u8; 16];
     kept[..n].copy_from_slice(block);
@@ -53,26 +53,26 @@ fn unlink<C: BlockCipher>(cipher: &C, before: &mut [u8], block: &mut [u8])
 // Encrypts in place from the byte `from` to the end, in whole blocks. Decrypting gives back what was there. What stands before,
 // as a header in the clear, is lent with it, so both say by `from` where the blocks begin.
 pub fn cbc_encrypt<C: BlockCipher>(cipher: &C, buf: &mut [u8], from: usize)
-    requires { (from ≤ length buf.old) × ((length buf.old - from) % C.size ≡ 0) }
-    ensures is { buf.new ≡ take from buf.old ++ cbc C.size (C.enc cipher.now) (drop from buf.old) }
-    ensures undone { uncbc C.size (C.dec cipher.now) (drop from buf.new) ≡ drop from buf.old }
+    requires { (from ≤ length buf.old) × ((length buf.old - from) % C.BLOCK ≡ 0) }
+    ensures is { buf.new ≡ take from buf.old ++ cbc C.BLOCK (C.enc cipher.now) (drop from buf.old) }
+    ensures undone { uncbc C.BLOCK (C.dec cipher.now) (drop from buf.new) ≡ drop from buf.old }
 {
     chain(
         &mut buf[from..],
-        C::block_len(),
+        C::BLOCK,
         |before, block| link(cipher, before, block),
     );
 }
 
 // Decrypts in place from the byte `from` to the end, in whole blocks. Encrypting gives back what was there.
 pub fn cbc_decrypt<C: BlockCipher>(cipher: &C, buf: &mut [u8], from: usize)
-    requires { (from ≤ length buf.old) × ((length buf.old - from) % C.size ≡ 0) }
-    ensures is { buf.new ≡ take from buf.old ++ uncbc C.size (C.dec cipher.now) (drop from buf.old) }
-    ensures undone { cbc C.size (C.enc cipher.now) (drop from buf.new) ≡ drop from buf.old }
+    requires { (from ≤ length buf.old) × ((length buf.old - from) % C.BLOCK ≡ 0) }
+    ensures is { buf.new ≡ take from buf.old ++ uncbc C.BLOCK (C.dec cipher.now) (drop from buf.old) }
+    ensures undone { cbc C.BLOCK (C.enc cipher.now) (drop from buf.new) ≡ drop from buf.old }
 {
     chain(
         &mut buf[from..],
-        C::block_len(),
+        C::BLOCK,
         |before, block| unlink(cipher, before, block),
     );
 }

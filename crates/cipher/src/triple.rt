@@ -18,7 +18,7 @@ impl<C: BlockCipher> Triple<C> {
     // The triple of three ciphers. Three equal ones make the single cipher.
     pub fn new(first: C, second: C, third: C) -> Triple<C>
         ensures keys { (result.first ≡ first) × (result.second ≡ second) × (result.third ≡ third) }
-        ensures single { first ≡ second → second ≡ third → (b : List ℕ) → Block C.size b → in_turn (C.enc result.first) (C.dec result.second) (C.enc result.third) b ≡ C.enc first b }
+        ensures single { first ≡ second → second ≡ third → (b : List ℕ) → Block C.BLOCK b → in_turn (C.enc result.first) (C.dec result.second) (C.enc result.third) b ≡ C.enc first b }
     {
         Triple {
             first,
@@ -31,7 +31,7 @@ impl<C: BlockCipher> Triple<C> {
 impl<C: BlockCipher> BlockCipher for Triple<C> {
     const BLOCK: usize = C::BLOCK;
 
-    ghost size = { C.size };
+    ghost BLOCK = { C.BLOCK };
 
     ghost enc = { λ t. in_turn (C.enc t.first) (C.dec t.second) (C.enc t.third) };
 
@@ -42,10 +42,6 @@ impl<C: BlockCipher> BlockCipher for Triple<C> {
     ghost permutes = { λ k.
         let laws = C.permutes in
         after (after (laws k.first) (turned (laws k.second))) (laws k.third) };
-
-    fn block_len() -> usize {
-        C::block_len()
-    }
 
     fn encrypt(&self, block: &mut [u8]) {
         self.first.encrypt(block);

@@ -6,7 +6,7 @@ use crate::triple::Triple;
 
 // A block cipher whose blocks have 16 bytes.
 pub trait Wide: BlockCipher {
-    ghost wide: { Self.size ≡ 16 };
+    ghost wide: { Self.BLOCK ≡ 16 };
 }
 
 impl<C: Wide> Wide for Triple<C> {

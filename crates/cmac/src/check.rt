@@ -37,7 +37,7 @@ fn blocks_before_last(len: usize) -> usize
 impl<C: Wide> Integrity for Cmac<C> {
     const LEN: usize = BLOCK;
 
-    ghost size = { 16 };
+    ghost LEN = { 16 };
 
     ghost check = { λ k message. cmac (C.enc k.cipher) message };
 
@@ -47,10 +47,6 @@ impl<C: Wide> Integrity for Cmac<C> {
         let E : List ℕ → List ℕ = C.enc k.cipher in
         let Keeps : ℕ → Type 0 = λ n. (b : List ℕ) → Block n b → Block n (E b) in
         block_cmac E (subst Keeps C.wide (C.permutes k.cipher).forth) message h };
-
-    fn tag_len() -> usize {
-        BLOCK
-    }
 
     fn write_check(&self, message: &[u8], out: &mut [u8]) {
         let (front, last) = message.split_at(BLOCK * blocks_before_last(message.len()));

@@ -39,17 +39,13 @@ fn divide_and_invert(message: &[u8]) -> u32
 impl Integrity for Crc32 {
     const LEN: usize = 4;
 
-    ghost size = { 4 };
+    ghost LEN = { 4 };
 
     ghost check = { λ _ message. crc message };
 
     ghost bounded = { (lit≤ tt, lit≤ tt) };
 
     ghost fixed = { unfold crc in λ k message h. (length_octets 4 (inverted (remainder start message)), bytes_octets 4 (inverted (remainder start message))) };
-
-    fn tag_len() -> usize {
-        Self::LEN
-    }
 
     fn write_check(&self, message: &[u8], out: &mut [u8]) {
         out.copy_from_slice(&divide_and_invert(message).to_be_bytes());

@@ -33,7 +33,7 @@ impl Des {
 impl BlockCipher for Des {
     const BLOCK: usize = 8;
 
-    ghost size = { 8 };
+    ghost BLOCK = { 8 };
 
     ghost enc = { λ d b. encrypts d.keys b };
 
@@ -42,10 +42,6 @@ impl BlockCipher for Des {
     ghost sizes = { inl refl };
 
     ghost permutes = { λ d. ciphered_permutes (map (bits 48) d.keys) };
-
-    fn block_len() -> usize {
-        Self::BLOCK
-    }
 
     fn encrypt(&self, block: &mut [u8]) {
         let block = block.as_mut_array().unwrap();

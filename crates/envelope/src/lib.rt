@@ -18,11 +18,11 @@ pub fn seal_under<C: BlockCipher, I: Integrity>(
     out: &mut [u8],
 ) -> usize
     requires { 288 ≤ length out.old }
-    ensures { Seals (enciphered C.size (C.enc cipher.now) (I.check mechanism.now) (as_text text.entry)) out.old out.new result }
+    ensures { Seals (enciphered C.BLOCK (C.enc cipher.now) (I.check mechanism.now) (as_text text.entry)) out.old out.new result }
 {
     let len = write_frame(
         mechanism,
-        C::block_len(),
+        C::BLOCK,
         text.direction,
         text.number,
         text.body,
@@ -38,13 +38,13 @@ pub fn open_under<C: BlockCipher, I: Integrity>(
     mechanism: &I,
     string: &mut [u8],
 ) -> Option<Opened>
-    ensures { OpensTo (deciphered C.size I.size (C.dec cipher.now) (I.check mechanism.now) string.old) string.old string.new result }
+    ensures { OpensTo (deciphered C.BLOCK I.LEN (C.dec cipher.now) (I.check mechanism.now) string.old) string.old string.new result }
 {
-    if string.len() % C::block_len() != 0 {
+    if string.len() % C::BLOCK != 0 {
         return None;
     }
     cbc_decrypt(cipher, string, 0);
-    let opened = read_frame(mechanism, C::block_len(), string);
+    let opened = read_frame(mechanism, C::BLOCK, string);
     if opened.is_none() {
         cbc_encrypt(cipher, string, 0);
     }

@@ -43,10 +43,10 @@ fn stated_number(frame: &[u8]) -> u64
 
 // Whether the check behind the byte `end` is the one over what stands before it.
 fn is_checked<I: Integrity>(mechanism: &I, frame: &[u8], end: usize) -> bool
-    requires { end + I.size ≤ length frame.now }
-    ensures { result ≡ bytes_eq (I.check mechanism.now (take end frame.now)) (take I.size (drop end frame.now)) }
+    requires { end + I.LEN ≤ length frame.now }
+    ensures { result ≡ bytes_eq (I.check mechanism.now (take end frame.now)) (take I.LEN (drop end frame.now)) }
 {
-    let tag = I::tag_len();
+    let tag = I::LEN;
     // In fixed memory: no check has more than 16 bytes.
     let mut expected = [0u8; 16];
     mechanism.write_check(&frame[0..end], &mut expected[0..tag]);
@@ -56,14 +56,14 @@ fn is_checked<I: Integrity>(mechanism: &I, frame: &[u8], end: usize) -> bool
 // The body's length that bytes state, where they are laid out as a frame.
 fn body_len<I: Integrity>(mechanism: &I, block: usize, frame: &[u8]) -> Option<usize>
     requires { (1 ≤ block) × (block ≤ 16) }
-    ensures { result ≡ (if framed block I.size (I.check mechanism.now) frame.now then Some (stated frame.now) else None) }
+    ensures { result ≡ (if framed block I.LEN (I.check mechanism.now) frame.now then Some (stated frame.now) else None) }
 {
     if frame.len() < 11 {
         return None;
     }
     let len = stated_len(frame);
     let end = 11 + len;
-    let tag = I::tag_len();
+    let tag = I::LEN;
     let framed = (2..=261).contains(&len)
         && frame.len() == in_blocks(end + tag, block)
         && is_checked(mechanism, frame, end)
@@ -74,7 +74,7 @@ fn body_len<I: Integrity>(mechanism: &I, block: usize, frame: &[u8]) -> Option<u
 // The text that a frame holds, where the bytes are one: its head, and where its body stands.
 pub fn read_frame<I: Integrity>(mechanism: &I, block: usize, frame: &[u8]) -> Option<Opened>
     requires { (1 ≤ block) × (block ≤ 16) }
-    ensures { result ≡ told (text_of block I.size (I.check mechanism.now) frame.now) }
+    ensures { result ≡ told (text_of block I.LEN (I.check mechanism.now) frame.now) }
 {
     let len = body_len(mechanism, block, frame)?;
     let direction = Direction::try_from(frame[0]).ok()?;

@@ -26,12 +26,12 @@ fn put_front(direction: Direction, number: u64, body: &[u8], out: &mut [u8]) -> 
 
 // Writes the check over the first `end` bytes behind them, and answers where it ends.
 fn put_check<I: Integrity>(mechanism: &I, out: &mut [u8], end: usize) -> usize
-    requires { end + I.size ≤ length out.old }
-    ensures end { result ≡ end + I.size }
-    ensures long { length (I.check mechanism.now (take end out.old)) ≡ I.size }
-    ensures bytes { out.new ≡ take end out.old ++ (I.check mechanism.now (take end out.old) ++ drop (end + I.size) out.old) }
+    requires { end + I.LEN ≤ length out.old }
+    ensures end { result ≡ end + I.LEN }
+    ensures long { length (I.check mechanism.now (take end out.old)) ≡ I.LEN }
+    ensures bytes { out.new ≡ take end out.old ++ (I.check mechanism.now (take end out.old) ++ drop (end + I.LEN) out.old) }
 {
-    let tag = I::tag_len();
+    let tag = I::LEN;
     let (front, behind) = out.split_at_mut(end);
     mechanism.write_check(front, &mut behind[..tag]);
     end + tag

@@ -9,20 +9,16 @@ pub trait Integrity {
     // The length of a check.
     const LEN: usize;
 
-    ghost size: { ℕ };
+    ghost LEN: { ℕ };
 
     ghost check: { Self → List ℕ → List ℕ };
 
-    // The length of a check, tied to `size`, which all users' clauses name: a ghost `LEN` there would read no plainer.
-    fn tag_len() -> usize
-        ensures { result ≡ size };
-
     // Writes the check of the message into `out`: a slice, as a type parameter's constant gives no array its length.
     fn write_check(&self, message: &[u8], out: &mut [u8])
-        requires { length out.old ≡ size }
+        requires { length out.old ≡ LEN }
         ensures { out.new ≡ check self.now message.now };
 
-    ghost bounded: { (1 ≤ size) × (size ≤ 16) };
+    ghost bounded: { (1 ≤ LEN) × (LEN ≤ 16) };
 
-    ghost fixed: { (k : Self) (message : List ℕ) → Bytes message → Block size (check k message) };
+    ghost fixed: { (k : Self) (message : List ℕ) → Bytes message → Block LEN (check k message) };
 }

@@ -30,7 +30,7 @@ fn seal_by<C: BlockCipher>(
     out: &mut [u8],
 ) -> usize
     requires { 288 ≤ length out.old }
-    ensures { Seals (enciphered C.size (C.enc cipher.now) (checks mechanism keys.now) (as_text text.entry)) out.old out.new result }
+    ensures { Seals (enciphered C.BLOCK (C.enc cipher.now) (checks mechanism keys.now) (as_text text.entry)) out.old out.new result }
 {
     match mechanism {
         Mechanism::Crc32 => seal_under(cipher, &Crc32, text, out),
@@ -45,7 +45,7 @@ fn open_by<C: BlockCipher>(
     keys: &[u8; 40],
     string: &mut [u8],
 ) -> Option<Opened>
-    ensures { OpensTo (deciphered C.size (check_len mechanism) (C.dec cipher.now) (checks mechanism keys.now) string.old) string.old string.new result }
+    ensures { OpensTo (deciphered C.BLOCK (check_len mechanism) (C.dec cipher.now) (checks mechanism keys.now) string.old) string.old string.new result }
 {
     match mechanism {
         Mechanism::Crc32 => open_under(cipher, &Crc32, string),

@@ -52,10 +52,10 @@ fn block<C: BlockCipher + Drop, F: FnOnce(&C, &mut [u8])>(
     input: &[u8],
     work: F,
 ) -> Outcome
-    requires { (c block : _) → length block.now ≡ C.size → F.pre work c block }
+    requires { (c block : _) → length block.now ≡ C.BLOCK → F.pre work c block }
 {
     let cipher = cipher?;
-    if input.len() != C::block_len() {
+    if input.len() != C::BLOCK {
         return Err(Fault::OtherLength);
     }
     let mut out = input.to_vec(heap)?;
@@ -70,10 +70,10 @@ fn blocks<C: BlockCipher + Drop, F: FnOnce(&C, &mut [u8])>(
     input: &[u8],
     work: F,
 ) -> Outcome
-    requires { (c buf : _) → length buf.now % C.size ≡ 0 → F.pre work c buf }
+    requires { (c buf : _) → length buf.now % C.BLOCK ≡ 0 → F.pre work c buf }
 {
     let cipher = cipher?;
-    if input.len() % C::block_len() != 0 {
+    if input.len() % C::BLOCK != 0 {
         return Err(Fault::OtherLength);
     }
     let mut out = input.to_vec(heap)?;
@@ -83,7 +83,7 @@ fn blocks<C: BlockCipher + Drop, F: FnOnce(&C, &mut [u8])>(
 
 // A mechanism's check.
 fn check<I: Integrity + Drop>(heap: Global, mechanism: I, input: &[u8]) -> Outcome {
-    let mut out = vec![in heap; 0u8; I::tag_len()]?;
+    let mut out = vec![in heap; 0u8; I::LEN]?;
     mechanism.write_check(input, out.as_mut_slice());
     Ok(out)
 }

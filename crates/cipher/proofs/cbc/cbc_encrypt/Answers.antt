@@ -10,4 +10,4 @@ returns-clause-undone g c =
     let laws = g.met.C.BlockCipher.permutes c.args.cipher.now in
     let bytes : Bytes c.args.buf.now = bytes_of _ (λ i. search rules) in
     let text = c.chain.ensures (forth (g.C.BlockCipher.enc c.args.cipher.now)) (forth (g.C.BlockCipher.enc c.args.cipher.now)) (λ a b x y p. search rules) in
-    encrypted_undone _ _ _ laws c.args.from c.args.buf.now c.chain.new.text c.requires.0 c.requires.1 bytes _ c.block_len.ensures text
+    encrypted_undone _ _ _ laws c.args.from c.args.buf.now c.chain.new.text c.requires.0 c.requires.1 bytes _ c.BLOCK.ensures text

@@ -5,16 +5,16 @@ use Rattle.frame.proofs.read.is_checked.Goals as goal
 
 pub slice_bounds-same-end : goal.slice_bounds-same-end
 slice_bounds-same-end g c =
-    let s : g.I.Integrity.size ≤ 16 = g.met.I.Integrity.bounded.1 in
+    let s : g.I.Integrity.LEN ≤ 16 = g.met.I.Integrity.bounded.1 in
     simp (length-append, length-drop) (omega arith)
 
 pub returns : goal.returns
 returns g c =
-    let n : ℕ = g.I.Integrity.size in
-    let tag : ℕ = c.tag_len-tag.result in
+    let n : ℕ = g.I.Integrity.LEN in
+    let tag : ℕ = c.LEN-tag.result in
     let frame : List ℕ = c.args.frame.now in
     let end : ℕ = c.args.end in
-    let e : tag ≡ n = c.tag_len-tag.ensures in
+    let e : tag ≡ n = c.LEN-tag.ensures in
     let from : end - 0 ≡ end = omega arith in
     let size : (end + tag) - end ≡ n = omega arith in
     let long : length c.write_check.new.out ≡ tag - 0 = omega (arith, c.write_check.auto.out) in

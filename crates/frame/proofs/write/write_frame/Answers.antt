@@ -11,7 +11,7 @@ pub returns : goal.returns
 unfolding frame
 returns g c =
     let n : ℕ = c.args.block in
-    let size : ℕ = g.I.Integrity.size in
+    let size : ℕ = g.I.Integrity.LEN in
     let check : List ℕ → List ℕ = g.I.Integrity.check c.args.mechanism.now in
     let t : Text = text c.args.direction c.args.number c.args.body.now in
     let orig : List ℕ = c.args.out.now in
