@@ -28,11 +28,10 @@ const RECEIPT: [u8; 21] = *b"\x00\xDC\x01\x00\x10line 7, 17 Nov. ";
 const TOTAL: [u8; 5] = [0x00, 0xCA, 0x00, 0x00, 0x00];
 
 // The string with one bit of its last byte changed.
-fn damaged(heap: Global, string: &[u8]) -> Result<Vec<u8>, AllocError> {
+fn damaged(heap: Global, string: &[u8]) -> anyhow::Result<Vec<u8>> {
     let mut bytes = Vec::from_slice(heap, string)?;
-    if let Some(byte) = bytes.as_mut_slice().last_mut() {
-        *byte ^= 1;
-    }
+    let last = bytes.as_mut_slice().last_mut().context("an empty string")?;
+    *last ^= 1;
     Ok(bytes)
 }
 
