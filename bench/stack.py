@@ -38,7 +38,8 @@ def main():
     gdb.execute("run 1 > /dev/null", to_string=True)
     process, deepest = gdb.selected_inferior(), {}
     while process.threads():
-        apdu = process.read_memory(register("rsi"), 4)
+        # The result goes through a pointer in front, so the APDU's bytes are the third argument.
+        apdu = process.read_memory(register("rdx"), 4)
         name = kind([b[0] for b in apdu])
         deepest[name] = max(deepest.get(name, 0), depth(process))
         gdb.execute("continue", to_string=True)
