@@ -18,14 +18,26 @@ pub struct JoinedPairs<'a>(pub &'a [u8]);
 #[derive(Clone, Copy)]
 pub struct Reply<'a>(pub &'a [u8]);
 
+// A digit 0-9 A-F of a byte's half.
+fn digit(half: u8) -> char {
+    char::from(b"0123456789ABCDEF"[usize::from(half & 15)])
+}
+
+// A byte's pair of digits. They are looked up: `{byte:02X}` takes two to three times as long.
+fn write_pair<W: fmt::Write>(byte: u8, f: &mut fmt::Formatter<W>) -> fmt::Result {
+    f.write_char(digit(byte >> 4))?;
+    f.write_char(digit(byte))
+}
+
 impl fmt::Display for SpacedPairs<'_> {
     fn fmt<W: fmt::Write>(&self, f: &mut fmt::Formatter<W>) -> fmt::Result {
         let Some((first, rest)) = self.0.split_first() else {
             return Ok(());
         };
-        write!(f, "{first:02X}")?;
+        write_pair(*first, f)?;
         for byte in rest {
-            write!(f, " {byte:02X}")?;
+            f.write_char(' ')?;
+            write_pair(*byte, f)?;
         }
         Ok(())
     }
@@ -37,7 +49,7 @@ impl fmt::Display for JoinedPairs<'_> {
             return f.write_str("-");
         }
         for byte in self.0 {
-            write!(f, "{byte:02X}")?;
+            write_pair(*byte, f)?;
         }
         Ok(())
     }
