@@ -1,5 +1,5 @@
 // A key as a block, and joined with a byte.
-ghost use Rattle.std.specs.Prelude.{◌≡◌, ◌≤◌, length, replicate};
+ghost use Rattle.std.specs.Prelude.{◌≡◌, ◌≤◌, length, replicate, nat_lt};
 ghost use Rattle.byte_lists.specs.Bytes.{xors};
 ghost use Rattle.hmac.specs.Hmac.{filled, block_key};
 
@@ -16,11 +16,18 @@ fn filled_of(bytes: &[u8]) -> [u8; 64]
     block
 }
 
+// Whether a key is longer than a block.
+fn is_long(key: &[u8]) -> bool
+    ensures { result ≡ nat_lt 64 (length key.now) }
+{
+    key.len() > 64
+}
+
 // A key as a block; one that is longer than a block stands for its digest.
 pub fn block_key_of(key: &[u8]) -> [u8; 64]
     ensures { result ≡ block_key key.now }
 {
-    if key.len() > 64 {
+    if is_long(key) {
         filled_of(&digest_of(key))
     } else {
         filled_of(key)

@@ -48,15 +48,18 @@ pub fn timed<T: Drop, F: FnOnce() -> T>(rt: &HostRuntime, work: F) -> anyhow::Re
     Ok((given, nanoseconds(start.elapsed(rt)?)))
 }
 
-// The best of so many bursts, and of one at least.
+// The best of so many bursts; of none, what every burst is below.
 pub fn best_of<F: FnMut() -> anyhow::Result<Times>>(
     bursts: u32,
     mut burst: F,
 ) -> anyhow::Result<Times>
     requires { F.IsAlwaysCallable burst }
 {
-    let mut best = burst()?;
-    for _ in 1..bursts {
+    let mut best = Times {
+        card: u64::MAX,
+        contained: u64::MAX,
+    };
+    for _ in 0..bursts {
         best = best.least(burst()?);
     }
     Ok(best)

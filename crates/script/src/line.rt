@@ -66,14 +66,17 @@ fn read_bytes(heap: Global, word: &str) -> Result<Vec<u8>, LineError> {
     unhex(heap, word)?.ok_or(LineError::Unknown)
 }
 
-// A command of the four words behind its name.
+// A command of the four words behind its name. Its lengths are read before its bytes, so that a line whose lengths are no numbers
+// takes no memory; both byte strings are read before either is judged.
 fn read_command(heap: Global, words: [&str; 4]) -> Result<CommandLine, LineError> {
     let [apdu, random, buffer, work] = words;
+    let (buffer, work) = (read_length(buffer)?, read_length(work)?);
+    let (apdu, random) = (unhex(heap, apdu)?, unhex(heap, random)?);
     Ok(CommandLine {
-        apdu: read_bytes(heap, apdu)?,
-        random: read_bytes(heap, random)?,
-        buffer: read_length(buffer)?,
-        work: read_length(work)?,
+        apdu: apdu.ok_or(LineError::Unknown)?,
+        random: random.ok_or(LineError::Unknown)?,
+        buffer,
+        work,
     })
 }
 
@@ -83,14 +86,20 @@ impl Line {
         if text.starts_with("#") {
             return Ok(Line::Nothing);
         }
-        let words: Vec<&str> = text.split_whitespace().collect(heap)?;
-        match *words {
-            [] => Ok(Line::Nothing),
-            ["on"] => Ok(Line::Call(Step::On)),
-            ["off"] => Ok(Line::Call(Step::Off)),
-            ["load", text] => Ok(Line::Call(Step::Load(read_bytes(heap, text)?))),
-            ["new", a, b, c, d] => Ok(Line::New(Setup::try_from([a, b, c, d])?)),
-            ["command", a, b, c, d] => {
+        // No call has more than five words, so a sixth is as far as a line is cut, and no word of it takes memory.
+        let mut words = text.split_whitespace();
+        let mut word = || words.next();
+        match [word(), word(), word(), word(), word(), word()] {
+            [None, ..] => Ok(Line::Nothing),
+            [Some("on"), None, ..] => Ok(Line::Call(Step::On)),
+            [Some("off"), None, ..] => Ok(Line::Call(Step::Off)),
+            [Some("load"), Some(text), None, ..] => {
+                Ok(Line::Call(Step::Load(read_bytes(heap, text)?)))
+            }
+            [Some("new"), Some(a), Some(b), Some(c), Some(d), None] => {
+                Ok(Line::New(Setup::try_from([a, b, c, d])?))
+            }
+            [Some("command"), Some(a), Some(b), Some(c), Some(d), None] => {
                 Ok(Line::Call(Step::Command(read_command(heap, [a, b, c, d])?)))
             }
             _ => Err(LineError::Unknown),

@@ -18,14 +18,32 @@ pub struct JoinedPairs<'a>(pub &'a [u8]);
 #[derive(Clone, Copy)]
 pub struct Reply<'a>(pub &'a [u8]);
 
+// The digits 0-9 A-F.
+const DIGITS: &[u8; 16] = b"0123456789ABCDEF";
+
+// A byte's pair of digits, the higher first. They are looked up: `{byte:02X}` takes two to three times as long.
+fn pair_of(byte: u8) -> [u8; 2] {
+    [
+        DIGITS[usize::from(byte >> 4)],
+        DIGITS[usize::from(byte & 15)],
+    ]
+}
+
+// Digits and spaces, which are text.
+fn write_digits<W: fmt::Write>(digits: &[u8], f: &mut fmt::Formatter<W>) -> fmt::Result {
+    let text = str::from_utf8(digits).map_err(|_no_text| fmt::Error)?;
+    f.write_str(text)
+}
+
 impl fmt::Display for SpacedPairs<'_> {
     fn fmt<W: fmt::Write>(&self, f: &mut fmt::Formatter<W>) -> fmt::Result {
         let Some((first, rest)) = self.0.split_first() else {
             return Ok(());
         };
-        write!(f, "{first:02X}")?;
+        write_digits(&pair_of(*first), f)?;
         for byte in rest {
-            write!(f, " {byte:02X}")?;
+            let [high, low] = pair_of(*byte);
+            write_digits(&[b' ', high, low], f)?;
         }
         Ok(())
     }
@@ -36,8 +54,13 @@ impl fmt::Display for JoinedPairs<'_> {
         if self.0.is_empty() {
             return f.write_str("-");
         }
-        for byte in self.0 {
-            write!(f, "{byte:02X}")?;
+        // Eight bytes at a time, so that a long string takes few calls.
+        let (eights, rest) = self.0.as_chunks::<8>();
+        for eight in eights {
+            write_digits(eight.map(pair_of).as_flattened(), f)?;
+        }
+        for byte in rest {
+            write_digits(&pair_of(*byte), f)?;
         }
         Ok(())
     }

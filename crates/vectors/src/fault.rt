@@ -17,7 +17,7 @@ impl fmt::Display for Fault {
         f.write_str(match self {
             Fault::NotAVector => "not a vector",
             Fault::OtherLength => "key or input have another length",
-            Fault::OutOfMemory => "out of memory",
+            Fault::OutOfMemory => "memory allocation failed",
         })
     }
 }
