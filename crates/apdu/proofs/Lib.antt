@@ -1,3 +1,3 @@
 pub mod StatusFacts
 pub mod ReadBack
-pub mod Proper
+pub mod Within

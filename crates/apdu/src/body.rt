@@ -1,20 +1,16 @@
-// What stands behind the header of a command, and its parts.
-ghost use Rattle.std.specs.Prelude.{◌≡◌, ◌≤◌, length};
+// What stands behind the header of a command, and its parts. Their lengths are not bounded here: who needs a bound asks for it,
+// and what was read is within them.
 
-// Data: 1 to 255 bytes.
+// Data, of 1 to 255 bytes where it was read.
 #[derive(Clone, Copy)]
 pub struct Data<'a> {
     pub bytes: &'a [u8],
-    pub ghost some: { 1 ≤ length bytes.now },
-    pub ghost few: { length bytes.now ≤ 255 },
 }
 
-// How many bytes of reply are wanted: 1 to 256.
+// How many bytes of reply are wanted, 1 to 256 where it was read.
 #[derive(Clone, Copy)]
 pub struct Le {
     pub wanted: u16,
-    pub ghost some: { 1 ≤ wanted },
-    pub ghost few: { wanted ≤ 256 },
 }
 
 // What stands behind the header of a command. Four cases and not two Options: a command is judged by which case it is.

@@ -1,9 +1,10 @@
 -- Moves that are a status word alone, and moves that are another by a check's outcome.
-use Rattle.std.proofs.Common.{◌≡◌, ℕ, List, [], Some, None, sym, refl, ap, ◌∙◌}
+use Rattle.std.proofs.Common.{◌≡◌, ℕ, List, [], ◌++◌, Some, None, sym, refl, ap, ◌∙◌}
 use Rattle.apdu.specs.Command.{Shape, bare, le, alone, both}
 use Rattle.apdu.specs.Reply.{reply}
 use Rattle.apdu.specs.declared.status.Status.{Status}
 use Rattle.apdu.specs.declared.status.Status.TheVariants.{WrongLength, NotNow}
+use Rattle.objects.specs.Joined.{object}
 use Rattle.law.specs.Request as law
 use Rattle.law.specs.Step as law_step
 use Rattle.law.specs.Associations.{Hashing}
@@ -47,6 +48,12 @@ module _ (𝓗 : Hashing) (c : law_step.Core) (random : List ℕ) (k : law.Kind)
   no_data (le n) e = refl
   no_data (alone d) e = no_some e
   no_data (both d n) e = refl
+
+  pub with_data : (s : Shape) (d z : List ℕ) → Some d ≡ data_alone s → z ≡ j ++ d → joins 𝓗 c random k j s ≡ joined 𝓗 c random k z (object z)
+  with_data bare d z e w = no_some (sym e)
+  with_data (le n) d z e w = no_some (sym e)
+  with_data (alone x) d z e w = ap (λ (y : List ℕ). joined 𝓗 c random k y (object y)) (ap (λ (y : List ℕ). j ++ y) (some_same (sym e)) ∙ sym w)
+  with_data (both x n) d z e w = no_some (sym e)
 
 -- Where no object is gathered, none goes on.
 pub no_object : (𝓗 : Hashing) (c : law_step.Core) (random : List ℕ) (k : law.Kind) (s : Shape) (p : Pending) → ((g : Gathered) → p ≡ pending.Object g → ⊥)

@@ -2,6 +2,7 @@
 ghost use Rattle.std.specs.Prelude.{◌≡◌, ◌<◌, ◌≤◌, [], length};
 ghost use Rattle.buffer.specs.Held.{held};
 ghost use Rattle.apdu.specs.View.{shape_of};
+ghost use Rattle.apdu.specs.Writing.{Proper};
 ghost use Rattle.objects.specs.Joined.{object};
 ghost use Rattle.request.specs.View.{kind_of};
 ghost use Rattle.law.specs.Request.{asked, same_kind};
@@ -84,7 +85,8 @@ impl Core {
 
     // A command block: data alone joins what was gathered, and drops whatever else was pending.
     fn join(&mut self, kind: Kind, gathered: &[u8], body: Body<'_>, lent: Lent<'_>) -> Status
-        requires { length gathered.now ≤ 288 }
+        requires gathered { length gathered.now ≤ 288 }
+        requires proper { Proper (shape_of body) }
         ensures { Said (joins keyed (core_of self.old) lent.entry.random.now (kind_of kind) gathered.now (shape_of body.entry)) self.old self.new result }
     {
         let Some(part) = body.data_alone() else {
@@ -103,6 +105,7 @@ impl Core {
         random: &[u8; 32],
         area: &mut [u8],
     ) -> Status
+        requires proper { Proper (shape_of body) }
         requires area { 64 ≤ length area.old }
         ensures { Said (joins keyed (core_of self.old) random.now (kind_of kind) [] (shape_of body.entry)) self.old self.new result }
     {
@@ -112,6 +115,7 @@ impl Core {
 
     // P1 is to be that of the blocks that were gathered.
     fn join_as(&mut self, kind: Kind, gathered: Gathered, body: Body<'_>, lent: Lent<'_>) -> Status
+        requires proper { Proper (shape_of body) }
         ensures { Said (continues_as keyed (core_of self.old) lent.entry.random.now (kind_of kind) (held gathered.bytes) (shape_of body.entry) (same_kind (kind_of gathered.kind) (kind_of kind))) self.old self.new result }
     {
         if gathered.kind != kind {
@@ -128,6 +132,7 @@ impl Core {
         random: &[u8; 32],
         area: &mut [u8],
     ) -> Status
+        requires proper { Proper (shape_of body) }
         requires area { 64 ≤ length area.old }
         ensures { Said (continues keyed (core_of self.old) random.now (kind_of kind) (shape_of body.entry) (pending_of self.old.pending)) self.old self.new result }
     {

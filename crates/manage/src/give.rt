@@ -2,6 +2,7 @@
 ghost use Rattle.std.specs.Prelude.{◌≡◌, ◌≤◌};
 ghost use Rattle.buffer.specs.Held.{held};
 ghost use Rattle.apdu.specs.View.{shape_of};
+ghost use Rattle.apdu.specs.Writing.{Proper};
 ghost use Rattle.request.specs.View.{kind_of};
 ghost use Rattle.law.specs.Request.{discovery, same_kind};
 ghost use Rattle.law.specs.Step.{says, given, gives_reply, replies_as, answers, goes_on, discovery_object};
@@ -19,6 +20,7 @@ use replies::reply::{DiscoveryReply, Reply};
 impl Core {
     // Gives up to so many bytes of a reply from a place on, and remembers how far that went.
     fn give_block(&mut self, waiting: Waiting, most: Le) -> Told
+        requires most { most.wanted ≤ 256 }
         ensures { Replied (given (core_of self.old) (kind_of waiting.kind) (held waiting.reply) waiting.given most.wanted) self.old self.new result }
     {
         let block = reply_block(
@@ -39,7 +41,9 @@ impl Core {
     }
 
     // A reply block carries Le alone.
+    #[tactic(auto, using(apdu::proofs::Within::le_within))]
     fn give(&mut self, waiting: Waiting, body: Body<'_>) -> Told
+        requires proper { Proper (shape_of body) }
         ensures { Replied (gives_reply (core_of self.old) (kind_of waiting.kind) (held waiting.reply) waiting.given (shape_of body.entry)) self.old self.new result }
     {
         let Some(most) = body.le_alone() else {
@@ -57,6 +61,7 @@ impl Core {
 
     // P1 is to be that of the reply that waits.
     fn give_as(&mut self, kind: Kind, waiting: Waiting, body: Body<'_>) -> Told
+        requires proper { Proper (shape_of body) }
         ensures { Replied (replies_as (core_of self.old) (kind_of kind) (held waiting.reply) waiting.given (shape_of body.entry) (same_kind (kind_of waiting.kind) (kind_of kind))) self.old self.new result }
     {
         if waiting.kind != kind {
@@ -67,6 +72,7 @@ impl Core {
 
     // P2 A0: the reply that waits, from its first byte.
     pub fn answer(&mut self, kind: Kind, body: Body<'_>) -> Told
+        requires proper { Proper (shape_of body) }
         ensures { Replied (answers (core_of self.old) (kind_of kind) (shape_of body.entry) (pending_of self.old.pending)) self.old self.new result }
     {
         let Pending::Reply(waiting) = self.pending else {
@@ -81,6 +87,7 @@ impl Core {
 
     // P2 20: the reply that waits, from where the last block ended.
     pub fn go_on(&mut self, kind: Kind, body: Body<'_>) -> Told
+        requires proper { Proper (shape_of body) }
         ensures { Replied (goes_on (core_of self.old) (kind_of kind) (shape_of body.entry) (pending_of self.old.pending)) self.old self.new result }
     {
         let Pending::Reply(waiting) = self.pending else {
@@ -91,6 +98,7 @@ impl Core {
 
     // A discovery: what the card says of itself, made anew.
     pub fn discover(&mut self, body: Body<'_>) -> Told
+        requires proper { Proper (shape_of body) }
         ensures { Replied (gives_reply (core_of self.old) discovery (discovery_object self.old.required self.old.failures) 0 (shape_of body.entry)) self.old self.new result }
     {
         let waiting = Waiting {

@@ -1,5 +1,7 @@
 -- The code's types, as the rules speak of them.
+use Rattle.std.specs.Prelude.{◌<◌}
 use Rattle.apdu.specs.View.{shape_of}
+use Rattle.apdu.specs.Writing.{Proper}
 use Rattle.law.specs.Request as line
 use Rattle.apdu.specs.declared.kind.Kind.{Kind}
 use Rattle.apdu.specs.declared.kind.Kind.TheVariants.{Discovery, Master, Connection, Start, Terminate}
@@ -25,3 +27,17 @@ asks (GoOn k b) = line.go_on (kind_of k) (shape_of b)
 asks (Block b) = line.block b.row b.p2 (shape_of b.body)
 asks (Fetch f) = line.fetch f.row f.number (shape_of f.body)
 asks (Discard d) = line.discard d.row (shape_of d.body)
+
+-- A request is well formed: its row is one of the four, data has 1 to 255 bytes, and Le asks for 1 to 256.
+abbrev pub Formed : Request → Type 0
+Formed (Block b) = (b.row < 4) × Proper (shape_of b.body)
+Formed (Fetch f) = (f.row < 4) × Proper (shape_of f.body)
+Formed (Discard d) = (d.row < 4) × Proper (shape_of d.body)
+Formed Malformed = Unit {0}
+Formed Other = Unit {0}
+Formed Unlisted = Unit {0}
+Formed (Begin k b) = Proper (shape_of b)
+Formed (Continue k b) = Proper (shape_of b)
+Formed (Discover b) = Proper (shape_of b)
+Formed (Answer k b) = Proper (shape_of b)
+Formed (GoOn k b) = Proper (shape_of b)

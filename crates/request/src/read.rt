@@ -1,8 +1,9 @@
 // Reading what an APDU asks of the card.
 ghost use Rattle.std.specs.Prelude.{◌≡◌, Some};
 ghost use Rattle.apdu.specs.View.{shape_of, command_of};
+ghost use Rattle.apdu.specs.Writing.{Proper};
 ghost use Rattle.law.specs.Request.{discovers, terminates, by_p2, manages, transacts, by_header, request};
-ghost use Rattle.request.specs.View.{kind_of, asks};
+ghost use Rattle.request.specs.View.{kind_of, asks, Formed};
 
 use crate::request::{Block, Discard, Fetch, Request};
 use apdu::{Apdu, Body, Kind};
@@ -11,7 +12,9 @@ use table_rows::Row;
 impl<'a> Request<'a> {
     // A discovery, by P2.
     fn discovery(p2: u8, body: Body<'a>) -> Request<'a>
-        ensures { asks result ≡ discovers p2 (shape_of body.entry) }
+        requires { Proper (shape_of body) }
+        ensures asks { asks result ≡ discovers p2 (shape_of body.entry) }
+        ensures formed { Formed result }
     {
         match p2 {
             0xA0 => Request::Discover(body),
@@ -22,7 +25,9 @@ impl<'a> Request<'a> {
 
     // A termination, by P2.
     fn termination(p2: u8, body: Body<'a>) -> Request<'a>
-        ensures { asks result ≡ terminates p2 (shape_of body.entry) }
+        requires { Proper (shape_of body) }
+        ensures asks { asks result ≡ terminates p2 (shape_of body.entry) }
+        ensures formed { Formed result }
     {
         match p2 {
             0x80 => Request::Begin(Kind::Terminate, body),
@@ -33,7 +38,9 @@ impl<'a> Request<'a> {
 
     // A kind that has command and reply blocks, by P2.
     fn exchange(kind: Kind, p2: u8, body: Body<'a>) -> Request<'a>
-        ensures { asks result ≡ by_p2 (kind_of kind) p2 (shape_of body.entry) }
+        requires { Proper (shape_of body) }
+        ensures asks { asks result ≡ by_p2 (kind_of kind) p2 (shape_of body.entry) }
+        ensures formed { Formed result }
     {
         match p2 {
             0x80 => Request::Begin(kind, body),
@@ -46,7 +53,9 @@ impl<'a> Request<'a> {
 
     // MANAGE SECURE CHANNEL, by P1 and P2.
     fn manage(p1: u8, p2: u8, body: Body<'a>) -> Request<'a>
-        ensures { asks result ≡ manages p1 p2 (shape_of body.entry) }
+        requires { Proper (shape_of body) }
+        ensures asks { asks result ≡ manages p1 p2 (shape_of body.entry) }
+        ensures formed { Formed result }
     {
         match Kind::try_from(p1) {
             Ok(Kind::Discovery) => Request::discovery(p2, body),
@@ -58,7 +67,9 @@ impl<'a> Request<'a> {
 
     // TRANSACT DATA, by P1 and P2.
     fn transact(p1: u8, p2: u8, body: Body<'a>) -> Request<'a>
-        ensures { asks result ≡ transacts p1 p2 (shape_of body.entry) }
+        requires { Proper (shape_of body) }
+        ensures asks { asks result ≡ transacts p1 p2 (shape_of body.entry) }
+        ensures formed { Formed result }
     {
         let row = Row::of_p1(p1);
         match p1 % 64 {
@@ -75,7 +86,9 @@ impl<'a> Request<'a> {
 
     // What a command asks, by its header.
     fn by_header(command: Apdu<'a>) -> Request<'a>
-        ensures { asks result ≡ by_header (Some (command_of command.entry)) }
+        requires { Proper (command_of command).shape }
+        ensures asks { asks result ≡ by_header (Some (command_of command.entry)) }
+        ensures formed { Formed result }
     {
         if command.cla != 0x00 {
             return Request::Other;
@@ -89,7 +102,8 @@ impl<'a> Request<'a> {
 
     // Reads what an APDU asks of the card.
     pub fn read(apdu: &'a [u8]) -> Request<'a>
-        ensures { asks result ≡ request apdu.now }
+        ensures asks { asks result ≡ request apdu.now }
+        ensures formed { Formed result }
     {
         // A match: the toolchain finds no proof of `map_or` here, neither handed `by_header` as a function nor by a closure that calls it.
         match Apdu::read(apdu) {

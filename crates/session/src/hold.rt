@@ -1,5 +1,5 @@
 // Sessions as they are made, and the answer that one holds.
-ghost use Rattle.std.specs.Prelude.{◌≡◌, ◌≤◌, [], length, if◌then◌else◌, Some};
+ghost use Rattle.std.specs.Prelude.{◌≡◌, ◌≤◌, [], length, if◌then◌else◌, Some, IfSome};
 ghost use Rattle.std.specs.Option.{option_map};
 ghost use Rattle.buffer.specs.Held.{held};
 ghost use Rattle.law.specs.Session.{before};
@@ -38,9 +38,11 @@ impl Session {
         }
     }
 
-    // The block of this number of the answer that is held, if the answer goes so far.
+    // The block of this number of the answer that is held, if the answer goes so far. The container's size is a byte.
+    #[tactic(auto, using(crate::proofs::Cut::block_within))]
     pub fn answer_block(&self, number: u8) -> Option<replies::block::Block<'_>>
-        ensures { option_map seen result ≡ cut_block self.now.container (answer_in self.now.talk) number }
+        ensures block { option_map seen result ≡ cut_block self.now.container (answer_in self.now.talk) number }
+        ensures within { IfSome result (λ b. length b.bytes.now ≤ 255) }
     {
         match &self.talk {
             Talk::Idle | Talk::Gathering(_) => None,
