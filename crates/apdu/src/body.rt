@@ -1,7 +1,7 @@
-// What stands behind the header of a command, and its parts. Their lengths are not bounded here: who needs a bound asks for it,
-// and what was read is within them.
+// What stands behind the header of a command, and its parts. They are of any length, since a session takes any body: who needs a
+// bound asks for it, and a command that was read keeps it.
 
-// Data, of 1 to 255 bytes where it was read.
+// Data, 1 to 255 bytes where it was read.
 #[derive(Clone, Copy)]
 pub struct Data<'a> {
     pub bytes: &'a [u8],
