@@ -1,5 +1,5 @@
 // Replies given in blocks.
-ghost use Rattle.std.specs.Prelude.{◌≡◌, ◌≤◌};
+ghost use Rattle.std.specs.Prelude.{◌≡◌, ◌≤◌, length};
 ghost use Rattle.buffer.specs.Held.{held};
 ghost use Rattle.apdu.specs.View.{shape_of};
 ghost use Rattle.request.specs.View.{kind_of};
@@ -18,8 +18,9 @@ use replies::reply::{DiscoveryReply, Reply};
 
 impl Core {
     // Gives up to so many bytes of a reply from a place on, and remembers how far that went.
-    fn give_block(&mut self, waiting: Waiting, most: Le) -> Told
-        ensures { Replied (given (core_of self.old) (kind_of waiting.kind) (held waiting.reply) waiting.given most.wanted) self.old self.new result }
+    fn give_block(&mut self, waiting: Waiting, most: Le, reply: &mut [u8]) -> usize
+        requires { 258 ≤ length reply.old }
+        ensures { Replied (given (core_of self.old) (kind_of waiting.kind) (held waiting.reply) waiting.given most.wanted) self.old self.new reply.old reply.new result }
     {
         let block = reply_block(
             waiting.reply.as_slice(),
@@ -35,70 +36,76 @@ impl Core {
         } else {
             Status::Done
         };
-        Told::block(block.bytes, end)
+        Told::block(block.bytes, end).write(reply)
     }
 
     // A reply block carries Le alone.
-    fn give(&mut self, waiting: Waiting, body: Body<'_>) -> Told
-        ensures { Replied (gives_reply (core_of self.old) (kind_of waiting.kind) (held waiting.reply) waiting.given (shape_of body.entry)) self.old self.new result }
+    fn give(&mut self, waiting: Waiting, body: Body<'_>, reply: &mut [u8]) -> usize
+        requires { 258 ≤ length reply.old }
+        ensures { Replied (gives_reply (core_of self.old) (kind_of waiting.kind) (held waiting.reply) waiting.given (shape_of body.entry)) self.old self.new reply.old reply.new result }
     {
         let Some(most) = body.le_alone() else {
-            return self.say(Status::WrongLength);
+            return self.say(Status::WrongLength, reply);
         };
-        self.give_block(waiting, most)
+        self.give_block(waiting, most, reply)
     }
 
     // A status word alone, and nothing changes.
-    fn say(&self, status: Status) -> Told
-        ensures { Replied (says (core_of self.now) status) self.now self.now result }
+    fn say(&self, status: Status, reply: &mut [u8]) -> usize
+        requires { 258 ≤ length reply.old }
+        ensures { Replied (says (core_of self.now) status) self.now self.now reply.old reply.new result }
     {
-        Told::from(status)
+        Told::from(status).write(reply)
     }
 
     // P1 is to be that of the reply that waits.
-    fn give_as(&mut self, kind: Kind, waiting: Waiting, body: Body<'_>) -> Told
-        ensures { Replied (replies_as (core_of self.old) (kind_of kind) (held waiting.reply) waiting.given (shape_of body.entry) (same_kind (kind_of waiting.kind) (kind_of kind))) self.old self.new result }
+    fn give_as(&mut self, kind: Kind, waiting: Waiting, body: Body<'_>, reply: &mut [u8]) -> usize
+        requires { 258 ≤ length reply.old }
+        ensures { Replied (replies_as (core_of self.old) (kind_of kind) (held waiting.reply) waiting.given (shape_of body.entry) (same_kind (kind_of waiting.kind) (kind_of kind))) self.old self.new reply.old reply.new result }
     {
         if waiting.kind != kind {
-            return self.say(Status::WrongParameters);
+            return self.say(Status::WrongParameters, reply);
         }
-        self.give(waiting, body)
+        self.give(waiting, body, reply)
     }
 
     // P2 A0: the reply that waits, from its first byte.
-    pub fn answer(&mut self, kind: Kind, body: Body<'_>) -> Told
-        ensures { Replied (answers (core_of self.old) (kind_of kind) (shape_of body.entry) (pending_of self.old.pending)) self.old self.new result }
+    pub fn answer(&mut self, kind: Kind, body: Body<'_>, reply: &mut [u8]) -> usize
+        requires { 258 ≤ length reply.old }
+        ensures { Replied (answers (core_of self.old) (kind_of kind) (shape_of body.entry) (pending_of self.old.pending)) self.old self.new reply.old reply.new result }
     {
         let Pending::Reply(waiting) = self.pending else {
-            return self.say(Status::NotNow);
+            return self.say(Status::NotNow, reply);
         };
         let whole = Waiting {
             given: 0,
             ..waiting
         };
-        self.give_as(kind, whole, body)
+        self.give_as(kind, whole, body, reply)
     }
 
     // P2 20: the reply that waits, from where the last block ended.
-    pub fn go_on(&mut self, kind: Kind, body: Body<'_>) -> Told
-        ensures { Replied (goes_on (core_of self.old) (kind_of kind) (shape_of body.entry) (pending_of self.old.pending)) self.old self.new result }
+    pub fn go_on(&mut self, kind: Kind, body: Body<'_>, reply: &mut [u8]) -> usize
+        requires { 258 ≤ length reply.old }
+        ensures { Replied (goes_on (core_of self.old) (kind_of kind) (shape_of body.entry) (pending_of self.old.pending)) self.old self.new reply.old reply.new result }
     {
         let Pending::Reply(waiting) = self.pending else {
-            return self.say(Status::NotNow);
+            return self.say(Status::NotNow, reply);
         };
-        self.give_as(kind, waiting, body)
+        self.give_as(kind, waiting, body, reply)
     }
 
     // A discovery: what the card says of itself, made anew.
-    pub fn discover(&mut self, body: Body<'_>) -> Told
-        ensures { Replied (gives_reply (core_of self.old) discovery (discovery_object self.old.required self.old.failures) 0 (shape_of body.entry)) self.old self.new result }
+    pub fn discover(&mut self, body: Body<'_>, reply: &mut [u8]) -> usize
+        requires { 258 ≤ length reply.old }
+        ensures { Replied (gives_reply (core_of self.old) discovery (discovery_object self.old.required self.old.failures) 0 (shape_of body.entry)) self.old self.new reply.old reply.new result }
     {
         let waiting = Waiting {
             kind: Kind::Discovery,
             reply: self.discovery(),
             given: 0,
         };
-        self.give(waiting, body)
+        self.give(waiting, body, reply)
     }
 
     // The object of a discovery.

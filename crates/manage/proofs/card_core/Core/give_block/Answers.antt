@@ -26,4 +26,5 @@ returns c =
     let by : Bool → Status = λ b. cond b MoreToFetch Done in
     let end : c.if-block.end ≡ by c.reply_block-block.result.more =
     elim c.if-block.branch [ then-block w ↦ w.end-is ∙ ap by (sym w.if-block.true) | else-block w ↦ w.end-is ∙ ap by (sym w.if-block.false) ] in
-    gives c.args.self.now c.args.waiting.kind c.args.waiting.reply c.args.waiting.given c.args.most.wanted (seen c.reply_block-block.result) c.if-block.end c.block.result e end c.block.ensures
+    gives c.args.self.now c.args.waiting.kind c.args.waiting.reply c.args.waiting.given c.args.most.wanted (seen c.reply_block-block.result) c.if-block.end c.block.result c.args.reply.now c.write.new.reply c.write.result
+    e end c.block.ensures c.write.ensures.len c.write.ensures.written
