@@ -11,16 +11,15 @@ use crate::card_core::Core;
 use crate::pending::{Pending, Waiting};
 use crate::told::Told;
 use apdu::{Body, Kind, Le, Status};
-use associate::object;
-use buffer::Buffer;
+use buffer::{Buffer, Store};
 use replies::block::reply_block;
-use replies::reply::{DiscoveryReply, Reply};
+use replies::reply::{DiscoveryReply, LONGEST, Reply};
 
 impl Core {
     // Gives up to so many bytes of a reply from a place on, and remembers how far that went.
-    fn give_block(&mut self, waiting: Waiting, most: Le, reply: &mut [u8]) -> usize
+    fn give_block(&mut self, waiting: &Waiting, most: Le, reply: &mut [u8]) -> usize
         requires { 258 ≤ length reply.old }
-        ensures { Replied (given (core_of self.old) (kind_of waiting.kind) (held waiting.reply) waiting.given most.wanted) self.old self.new reply.old reply.new result }
+        ensures { Replied (given (core_of self.old) (kind_of waiting.now.kind) (held waiting.now.reply) waiting.now.given most.wanted) self.old self.new reply.old reply.new result }
     {
         let block = reply_block(
             waiting.reply.as_slice(),
@@ -29,7 +28,7 @@ impl Core {
         );
         self.pending = Pending::Reply(Waiting {
             given: waiting.given + block.bytes.len(),
-            ..waiting
+            ..*waiting
         });
         let end = if block.more {
             Status::MoreToFetch
@@ -40,9 +39,9 @@ impl Core {
     }
 
     // A reply block carries Le alone.
-    fn give(&mut self, waiting: Waiting, body: Body<'_>, reply: &mut [u8]) -> usize
+    fn give(&mut self, waiting: &Waiting, body: Body<'_>, reply: &mut [u8]) -> usize
         requires { 258 ≤ length reply.old }
-        ensures { Replied (gives_reply (core_of self.old) (kind_of waiting.kind) (held waiting.reply) waiting.given (shape_of body.entry)) self.old self.new reply.old reply.new result }
+        ensures { Replied (gives_reply (core_of self.old) (kind_of waiting.now.kind) (held waiting.now.reply) waiting.now.given (shape_of body.entry)) self.old self.new reply.old reply.new result }
     {
         let Some(most) = body.le_alone() else {
             return self.say(Status::WrongLength, reply);
@@ -59,9 +58,9 @@ impl Core {
     }
 
     // P1 is to be that of the reply that waits.
-    fn give_as(&mut self, kind: Kind, waiting: Waiting, body: Body<'_>, reply: &mut [u8]) -> usize
+    fn give_as(&mut self, kind: Kind, waiting: &Waiting, body: Body<'_>, reply: &mut [u8]) -> usize
         requires { 258 ≤ length reply.old }
-        ensures { Replied (replies_as (core_of self.old) (kind_of kind) (held waiting.reply) waiting.given (shape_of body.entry) (same_kind (kind_of waiting.kind) (kind_of kind))) self.old self.new reply.old reply.new result }
+        ensures { Replied (replies_as (core_of self.old) (kind_of kind) (held waiting.now.reply) waiting.now.given (shape_of body.entry) (same_kind (kind_of waiting.now.kind) (kind_of kind))) self.old self.new reply.old reply.new result }
     {
         if waiting.kind != kind {
             return self.say(Status::WrongParameters, reply);
@@ -81,7 +80,7 @@ impl Core {
             given: 0,
             ..waiting
         };
-        self.give_as(kind, whole, body, reply)
+        self.give_as(kind, &whole, body, reply)
     }
 
     // P2 20: the reply that waits, from where the last block ended.
@@ -92,7 +91,7 @@ impl Core {
         let Pending::Reply(waiting) = self.pending else {
             return self.say(Status::NotNow, reply);
         };
-        self.give_as(kind, waiting, body, reply)
+        self.give_as(kind, &waiting, body, reply)
     }
 
     // A discovery: what the card says of itself, made anew.
@@ -100,21 +99,23 @@ impl Core {
         requires { 258 ≤ length reply.old }
         ensures { Replied (gives_reply (core_of self.old) discovery (discovery_object self.old.required self.old.failures) 0 (shape_of body.entry)) self.old self.new reply.old reply.new result }
     {
-        let waiting = Waiting {
+        let mut waiting = Waiting {
             kind: Kind::Discovery,
-            reply: self.discovery(),
+            reply: Buffer::new(),
             given: 0,
         };
-        self.give(waiting, body, reply)
+        waiting.reply.append(self.discovery().as_slice()).unwrap();
+        self.give(&waiting, body, reply)
     }
 
     // The object of a discovery.
-    fn discovery(&self) -> Buffer
+    fn discovery(&self) -> Store<LONGEST>
         ensures { held result ≡ discovery_object self.now.required self.now.failures }
     {
-        object(&Reply::Discovery(DiscoveryReply {
+        let reply = Reply::Discovery(DiscoveryReply {
             required: self.required,
             failures: self.failures,
-        }))
+        });
+        reply.object()
     }
 }
