@@ -22,7 +22,8 @@ pub fn without_object(end: Result<(), Status>) -> Result<Buffer, Status>
     end.map(|()| Buffer::new())
 }
 
-// The bytes of a reply's object.
+// The bytes of a reply's object. The room in which it is made is paid for where it is made alone.
+#[inline(never)]
 pub fn object(reply: &Reply) -> Buffer
     ensures { held result ≡ reply_object reply.now }
 {

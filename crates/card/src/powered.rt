@@ -70,8 +70,13 @@ impl<S: Sealer, A: Application> Powered<S, A> {
         ensures wiped { work.new ≡ replicate (length work.old) 0 }
     {
         let area = WorkArea(work);
-        match self.told(apdu, random, area.0.first_chunk_mut::<WORK>().unwrap()) {
-            Some(told) => told.write(reply),
+        match self.told(
+            apdu,
+            random,
+            reply,
+            area.0.first_chunk_mut::<WORK>().unwrap(),
+        ) {
+            Some(n) => n,
             None => self.parts.application.run(apdu, reply),
         }
     }

@@ -3,7 +3,7 @@ use Rattle.std.proofs.Common.{◌≡◌, ℕ, ◌+◌, ◌^◌, ◌<◌, ◌≤�
 use Rattle.std.proofs.lemmas.List.{length-take, length-drop}
 use Rattle.buffer.specs.Held.{held}
 use Rattle.buffer.specs.declared.Store.{Store}
-use Rattle.apdu.specs.Reply.{reply}
+use Rattle.apdu.specs.Reply.{reply, fronted}
 use Rattle.apdu.specs.StatusWords.{status_bytes}
 use Rattle.apdu.specs.declared.status.Status.{Status}
 use Rattle.apdu.specs.declared.status.Status.TheVariants.{MoreToFetch, Done}
@@ -27,14 +27,17 @@ ends : (b : Bool) → cond b (status_bytes MoreToFetch) (status_bytes Done) ≡ 
 ends true = refl
 ends false = refl
 
-pub gives : (c : Core) (k : Kind) (z : Store 288) (at most : ℕ) (p : Part) (s : Status) (t : Told)
-    → p ≡ block_of (held z) at most → s ≡ cond p.more MoreToFetch Done → bytes_of t ≡ reply p.bytes s
-    → Replied (given (core_of c) (kind_of k) (held z) at most) c (with_reply c k z (at + length p.bytes)) t
-gives c k z at most p s t e h w = record {
+pub gives : (c : Core) (k : Kind) (z : Store 288) (at most : ℕ) (p : Part) (s : Status) (t : Told) (lent written : List ℕ) (n : ℕ)
+    → p ≡ block_of (held z) at most → s ≡ cond p.more MoreToFetch Done → bytes_of t ≡ reply p.bytes s → n ≡ length (bytes_of t) → written ≡ fronted (bytes_of t) lent
+    → Replied (given (core_of c) (kind_of k) (held z) at most) c (with_reply c k z (at + length p.bytes)) lent written n
+gives c k z at most p s t lent written n e h w l b = record {
+  reply = bytes_of t;
   move =
       ap by (sym e) ∙ ap (λ (y : List ℕ). does (core_of (with_reply c k z (at + length p.bytes))) (replied (p.bytes ++ y))) (ends p.more ∙ ap status_bytes (sym h))
       ∙ ap (λ (y : List ℕ). does (core_of (with_reply c k z (at + length p.bytes))) (replied y)) (sym w);
   answers = stays c.tables;
+  len = l;
+  bytes = b;
 }
   where
     by : Part → Move

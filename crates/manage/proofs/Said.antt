@@ -1,7 +1,7 @@
 -- Moves that are a status word alone, and moves that are another by a check's outcome.
-use Rattle.std.proofs.Common.{◌≡◌, ℕ, List, [], ◌++◌, Some, None, sym, refl, ap, ◌∙◌}
+use Rattle.std.proofs.Common.{◌≡◌, ℕ, List, [], ◌++◌, length, Some, None, sym, refl, ap, ◌∙◌}
 use Rattle.apdu.specs.Command.{Shape, bare, le, alone, both}
-use Rattle.apdu.specs.Reply.{reply}
+use Rattle.apdu.specs.Reply.{reply, fronted}
 use Rattle.apdu.specs.declared.status.Status.{Status}
 use Rattle.apdu.specs.declared.status.Status.TheVariants.{WrongLength, NotNow}
 use Rattle.objects.specs.Joined.{object}
@@ -22,12 +22,19 @@ use Rattle.apdu.specs.Alone.{le_alone, data_alone}
 use Rattle.manage.proofs.Stays.{stays}
 
 -- A status word that is told, and nothing changes.
-pub tells : (m : Move) (c : Core) (s : Status) (t : Told) → m ≡ says (core_of c) s → bytes_of t ≡ reply [] s → Replied m c c t
-tells m c s t e w = record { move = e ∙ ap (λ (zs : List ℕ). does (core_of c) (replied zs)) (sym w); answers = stays c.tables }
+pub tells : (m : Move) (c : Core) (s : Status) (t : Told) (lent written : List ℕ) (n : ℕ)
+    → m ≡ says (core_of c) s → bytes_of t ≡ reply [] s → n ≡ length (bytes_of t) → written ≡ fronted (bytes_of t) lent → Replied m c c lent written n
+tells m c s t lent written n e w l b = record {
+  reply = bytes_of t;
+  move = e ∙ ap (λ (zs : List ℕ). does (core_of c) (replied zs)) (sym w);
+  answers = stays c.tables;
+  len = l;
+  bytes = b;
+}
 
 -- One move is another.
-pub is_same : (m m' : Move) (before after : Core) (t : Told) → m ≡ m' → Replied m' before after t → Replied m before after t
-is_same m m' before after t e d = record { move = e ∙ d.move; answers = d.answers }
+pub is_same : (m m' : Move) (before after : Core) (lent written : List ℕ) (n : ℕ) → m ≡ m' → Replied m' before after lent written n → Replied m before after lent written n
+is_same m m' before after lent written n e d = record { reply = d.reply; move = e ∙ d.move; answers = d.answers; len = d.len; bytes = d.bytes }
 
 module _ (c : law_step.Core) (k : law.Kind) (z : List ℕ) (at : ℕ) where
   pub no_le : (s : Shape) → None ≡ le_alone s → gives_reply c k z at s ≡ says c WrongLength

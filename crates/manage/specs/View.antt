@@ -1,6 +1,7 @@
 -- The card's core as the rules speak of it.
-use Rattle.std.specs.Prelude.{◌≡◌, ℕ, Bool, true, false, cond, List}
+use Rattle.std.specs.Prelude.{◌≡◌, ℕ, Bool, true, false, cond, List, length}
 use Rattle.buffer.specs.Held.{held}
+use Rattle.apdu.specs.Reply.{fronted}
 use Rattle.apdu.specs.declared.status.Status.{Status}
 use Rattle.apdu.specs.declared.status.Status.TheVariants.{Done, MoreToFetch, ReplyWaits, MoreToSend, NotPossible, WrongLength, LimitPassed, NotNow, NotAuthentic, ChannelRequired, WrongData, NoSuchRecord, NoRoom, WrongParameters, NoSuchIdentifier, UnknownInstruction, Taken}
 use Rattle.request.specs.View.{kind_of}
@@ -13,8 +14,6 @@ use Rattle.law.specs.Step.{Move, does, says}
 use Rattle.manage.specs.declared.pending.Pending.{Pending}
 use Rattle.manage.specs.declared.pending.Pending.TheVariants.{Nothing, Object, Reply}
 use Rattle.manage.specs.declared.card_core.Core.{Core}
-use Rattle.manage.specs.declared.told.Told.{Told}
-use Rattle.manage.specs.Told.{bytes_of}
 
 abbrev pub pending_of : Pending → law.Pending
 pending_of Nothing = law.nothing
@@ -88,7 +87,10 @@ pub record Said (m : Move) (before after : Core) (s : Status) : Type 0 where
   pub move : m ≡ says (core_of after) s
   pub answers : Keeps before.tables after.tables
 
--- Likewise with a block and a status word.
-pub record Replied (m : Move) (before after : Core) (t : Told) : Type 0 where
-  pub move : m ≡ does (core_of after) (replied (bytes_of t))
+-- Likewise with a reply, which stands at the start of the lent buffer, the rest as it was; the answer is its length.
+pub record Replied (m : Move) (before after : Core) (lent written : List ℕ) (n : ℕ) : Type 0 where
+  pub reply : List ℕ
+  pub move : m ≡ does (core_of after) (replied reply)
   pub answers : Keeps before.tables after.tables
+  pub len : n ≡ length reply
+  pub bytes : written ≡ fronted reply lent

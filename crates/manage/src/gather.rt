@@ -92,7 +92,8 @@ impl Core {
         let Some(part) = body.data_alone() else {
             return Status::WrongLength;
         };
-        let mut joined: Store<JOINED> = Store::from_slice(gathered);
+        let mut joined: Store<JOINED> = Store::new();
+        joined.append(gathered).unwrap();
         joined.append(part.bytes).unwrap();
         self.judge(kind, joined.as_slice(), lent)
     }

@@ -1,5 +1,5 @@
 // Replies given in blocks.
-ghost use Rattle.std.specs.Prelude.{◌≡◌, ◌≤◌};
+ghost use Rattle.std.specs.Prelude.{◌≡◌, ◌≤◌, length};
 ghost use Rattle.buffer.specs.Held.{held};
 ghost use Rattle.apdu.specs.View.{shape_of};
 ghost use Rattle.apdu.specs.Writing.{Proper};
@@ -12,16 +12,16 @@ use crate::card_core::Core;
 use crate::pending::{Pending, Waiting};
 use crate::told::Told;
 use apdu::{Body, Kind, Le, Status};
-use associate::object;
-use buffer::Buffer;
+use buffer::{Buffer, Store};
 use replies::block::reply_block;
-use replies::reply::{DiscoveryReply, Reply};
+use replies::reply::{DiscoveryReply, LONGEST, Reply};
 
 impl Core {
     // Gives up to so many bytes of a reply from a place on, and remembers how far that went.
-    fn give_block(&mut self, waiting: Waiting, most: Le) -> Told
+    fn give_block(&mut self, waiting: &Waiting, most: Le, reply: &mut [u8]) -> usize
         requires most { most.wanted ≤ 256 }
-        ensures { Replied (given (core_of self.old) (kind_of waiting.kind) (held waiting.reply) waiting.given most.wanted) self.old self.new result }
+        requires room { 258 ≤ length reply.old }
+        ensures { Replied (given (core_of self.old) (kind_of waiting.now.kind) (held waiting.now.reply) waiting.now.given most.wanted) self.old self.new reply.old reply.new result }
     {
         let block = reply_block(
             waiting.reply.as_slice(),
@@ -30,92 +30,100 @@ impl Core {
         );
         self.pending = Pending::Reply(Waiting {
             given: waiting.given + block.bytes.len(),
-            ..waiting
+            ..*waiting
         });
         let end = if block.more {
             Status::MoreToFetch
         } else {
             Status::Done
         };
-        Told::block(block.bytes, end)
+        Told::block(block.bytes, end).write(reply)
     }
 
     // A reply block carries Le alone.
     #[tactic(auto, using(apdu::proofs::Within::le_within))]
-    fn give(&mut self, waiting: Waiting, body: Body<'_>) -> Told
+    fn give(&mut self, waiting: &Waiting, body: Body<'_>, reply: &mut [u8]) -> usize
         requires proper { Proper (shape_of body) }
-        ensures { Replied (gives_reply (core_of self.old) (kind_of waiting.kind) (held waiting.reply) waiting.given (shape_of body.entry)) self.old self.new result }
+        requires room { 258 ≤ length reply.old }
+        ensures { Replied (gives_reply (core_of self.old) (kind_of waiting.now.kind) (held waiting.now.reply) waiting.now.given (shape_of body.entry)) self.old self.new reply.old reply.new result }
     {
         let Some(most) = body.le_alone() else {
-            return self.say(Status::WrongLength);
+            return self.say(Status::WrongLength, reply);
         };
-        self.give_block(waiting, most)
+        self.give_block(waiting, most, reply)
     }
 
     // A status word alone, and nothing changes.
-    fn say(&self, status: Status) -> Told
-        ensures { Replied (says (core_of self.now) status) self.now self.now result }
+    fn say(&self, status: Status, reply: &mut [u8]) -> usize
+        requires { 258 ≤ length reply.old }
+        ensures { Replied (says (core_of self.now) status) self.now self.now reply.old reply.new result }
     {
-        Told::from(status)
+        Told::from(status).write(reply)
     }
 
     // P1 is to be that of the reply that waits.
-    fn give_as(&mut self, kind: Kind, waiting: Waiting, body: Body<'_>) -> Told
+    fn give_as(&mut self, kind: Kind, waiting: &Waiting, body: Body<'_>, reply: &mut [u8]) -> usize
         requires proper { Proper (shape_of body) }
-        ensures { Replied (replies_as (core_of self.old) (kind_of kind) (held waiting.reply) waiting.given (shape_of body.entry) (same_kind (kind_of waiting.kind) (kind_of kind))) self.old self.new result }
+        requires room { 258 ≤ length reply.old }
+        ensures { Replied (replies_as (core_of self.old) (kind_of kind) (held waiting.now.reply) waiting.now.given (shape_of body.entry) (same_kind (kind_of waiting.now.kind) (kind_of kind))) self.old self.new reply.old reply.new result }
     {
         if waiting.kind != kind {
-            return self.say(Status::WrongParameters);
+            return self.say(Status::WrongParameters, reply);
         }
-        self.give(waiting, body)
+        self.give(waiting, body, reply)
     }
 
     // P2 A0: the reply that waits, from its first byte.
-    pub fn answer(&mut self, kind: Kind, body: Body<'_>) -> Told
+    pub fn answer(&mut self, kind: Kind, body: Body<'_>, reply: &mut [u8]) -> usize
         requires proper { Proper (shape_of body) }
-        ensures { Replied (answers (core_of self.old) (kind_of kind) (shape_of body.entry) (pending_of self.old.pending)) self.old self.new result }
+        requires room { 258 ≤ length reply.old }
+        ensures { Replied (answers (core_of self.old) (kind_of kind) (shape_of body.entry) (pending_of self.old.pending)) self.old self.new reply.old reply.new result }
     {
         let Pending::Reply(waiting) = self.pending else {
-            return self.say(Status::NotNow);
+            return self.say(Status::NotNow, reply);
         };
         let whole = Waiting {
             given: 0,
             ..waiting
         };
-        self.give_as(kind, whole, body)
+        self.give_as(kind, &whole, body, reply)
     }
 
     // P2 20: the reply that waits, from where the last block ended.
-    pub fn go_on(&mut self, kind: Kind, body: Body<'_>) -> Told
+    pub fn go_on(&mut self, kind: Kind, body: Body<'_>, reply: &mut [u8]) -> usize
         requires proper { Proper (shape_of body) }
-        ensures { Replied (goes_on (core_of self.old) (kind_of kind) (shape_of body.entry) (pending_of self.old.pending)) self.old self.new result }
+        requires room { 258 ≤ length reply.old }
+        ensures { Replied (goes_on (core_of self.old) (kind_of kind) (shape_of body.entry) (pending_of self.old.pending)) self.old self.new reply.old reply.new result }
     {
         let Pending::Reply(waiting) = self.pending else {
-            return self.say(Status::NotNow);
+            return self.say(Status::NotNow, reply);
         };
-        self.give_as(kind, waiting, body)
+        self.give_as(kind, &waiting, body, reply)
     }
 
     // A discovery: what the card says of itself, made anew.
-    pub fn discover(&mut self, body: Body<'_>) -> Told
+    pub fn discover(&mut self, body: Body<'_>, reply: &mut [u8]) -> usize
         requires proper { Proper (shape_of body) }
-        ensures { Replied (gives_reply (core_of self.old) discovery (discovery_object self.old.required self.old.failures) 0 (shape_of body.entry)) self.old self.new result }
+        requires room { 258 ≤ length reply.old }
+        ensures { Replied (gives_reply (core_of self.old) discovery (discovery_object self.old.required self.old.failures) 0 (shape_of body.entry)) self.old self.new reply.old reply.new result }
     {
-        let waiting = Waiting {
+        let mut waiting = Waiting {
             kind: Kind::Discovery,
-            reply: self.discovery(),
+            reply: Buffer::new(),
             given: 0,
         };
-        self.give(waiting, body)
+        waiting.reply.append(self.discovery().as_slice()).unwrap();
+        self.give(&waiting, body, reply)
     }
 
     // The object of a discovery.
-    fn discovery(&self) -> Buffer
+    fn discovery(&self) -> Store<LONGEST>
         ensures { held result ≡ discovery_object self.now.required self.now.failures }
     {
-        object(&Reply::Discovery(DiscoveryReply {
+        let reply = Reply::Discovery(DiscoveryReply {
             required: self.required,
             failures: self.failures,
-        }))
+        });
+        reply.object()
     }
 }

@@ -5,28 +5,24 @@ ghost use Rattle.manage.specs.Told.{bytes_of};
 
 use crate::told::Told;
 use apdu::{Status, put_reply};
-use buffer::Store;
 
 // A status word alone.
-impl From<Status> for Told {
+impl<'a> From<Status> for Told<'a> {
     ghost from_gives = { λ s t. bytes_of t ≡ reply [] s };
 
-    fn from(status: Status) -> Told {
-        Told {
-            block: Store::new(),
-            status,
-        }
+    fn from(status: Status) -> Told<'a> {
+        Told { block: &[], status }
     }
 }
 
-impl Told {
+impl<'a> Told<'a> {
     // These bytes, and the status word behind them.
-    pub fn block(bytes: &[u8], status: Status) -> Told
+    pub fn block(bytes: &'a [u8], status: Status) -> Told<'a>
         requires { length bytes.now ≤ 256 }
         ensures { bytes_of result ≡ reply bytes.now status }
     {
         Told {
-            block: Store::from_slice(bytes),
+            block: bytes,
             status,
         }
     }
@@ -37,6 +33,6 @@ impl Told {
         ensures len { result ≡ length (bytes_of self.now) }
         ensures written { reply.new ≡ fronted (bytes_of self.now) reply.old }
     {
-        put_reply(reply, self.block.as_slice(), self.status)
+        put_reply(reply, self.block, self.status)
     }
 }

@@ -87,6 +87,7 @@ impl ConnectionReply {
 
 impl Reply {
     /// The reply's object.
+    #[inline(always)]
     pub fn object(&self) -> Store<LONGEST>
         ensures { held result ≡ reply_object self.now }
     {

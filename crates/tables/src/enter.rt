@@ -55,16 +55,13 @@ impl Tables {
 
     // Starts the session of a connection, idle.
     #[tactic(auto, using(crate::proofs::Kept::row_dropped))]
-    pub fn start(&mut self, at: At<Connection>, session: Session)
+    pub fn start(&mut self, mut at: At<Connection>, session: Session)
         requires { session.talk ≡ Idle }
         ensures tables { tables_of self.new ≡ put_connection (tables_of self.old) at.row (with_session (connection_of at.item) at.item.count (started session.container idle)) }
         ensures answers { Keeps self.old self.new }
     {
-        let connection = at.item;
-        self.connections[usize::from(at.row)] = Some(Connection {
-            session: Some(session),
-            ..connection
-        });
+        at.item.session = Some(session);
+        self.connections[usize::from(at.row)] = Some(at.item);
     }
 
     // Puts a connection into the row, with what its session holds.

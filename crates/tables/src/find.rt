@@ -17,7 +17,7 @@ fn first_named<T: Named>(rows: &[Option<T>], name: &[u8]) -> Option<usize>
     rows.iter().position(
         |held|
             ensures { result ≡ passes (λ x. T.Named.called name.entry.now (T.Named.seen x)) held.now }
-        { held.is_some_and(|item| item.is_called(name)) },
+        { held.as_ref().is_some_and(|item| item.is_called(name)) },
     )
 }
 

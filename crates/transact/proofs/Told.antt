@@ -1,6 +1,7 @@
 -- What the card says of an event, told from what the session made of it.
 use Rattle.std.proofs.Common.{◌≡◌, ℕ, Bool, true, false, eqb, List, [], map, get_or, Some, None, Ok, Err, Option, Result, sym, refl, ap, ◌∙◌}
 use lib.ListN.{get_or-map}
+use Rattle.std.specs.Option.{option_map}
 use Rattle.sealing.specs.Sealing.{Sealing}
 use Rattle.application.specs.Acts.{Acts}
 use Rattle.apdu.specs.Command.{Shape}
@@ -30,7 +31,7 @@ use Rattle.law.specs.Step as law_step
 use Rattle.law.specs.Step.{Move, Done, says, put, talks, carries, done, blocks, in_session, completes, holds_talk, block_given}
 use Rattle.law.proofs.Rows.{never}
 use Rattle.transact.specs.declared.started.Started.{Started}
-use Rattle.transact.specs.View.{state_of, ended, told, said, last_of, session_at, StartedAt}
+use Rattle.transact.specs.View.{state_of, ended, told, said, last_of, session_at, LentAt, StartedAt}
 
 module _ (𝓢 : Sealing) {M : Type 0} (𝓐 : Acts M) where
   -- A move that is a status word alone, carried out.
@@ -111,6 +112,15 @@ at c row = get_or (connections_of c.tables.connections) row None
 -- The answer that a row's session holds.
 answer_held : (rows : List (Option Connection)) (row : ℕ) (x : Connection) (z : Session) → Some x ≡ get_or rows row None → x.session ≡ Some z → get_or (map answer_at rows) row [] ≡ answer_in z.talk
 answer_held rows row x z e is = get_or-map answer_at rows row None ∙ ap answer_at (sym e) ∙ ap answer_of is
+
+-- A session that is lent is one that is started.
+pub lent_started : (c : Core) (row : ℕ) (z : Session) (l : LentAt c row z) → StartedAt c row (record { row = row; connection = l.connection; session = z })
+lent_started c row z l = record {
+  row_is = refl;
+  held = l.held;
+  seen = ap (option_map connection_of) l.held ∙ sym (get_or-map (option_map connection_of) c.tables.connections row None);
+  is = l.is;
+}
 
 module _ (𝓢 : Sealing) {M : Type 0} (𝓐 : Acts M) (c : Core) (k : M) (row : ℕ) (s : Shape) where
   abbrev carry : Move → Done M

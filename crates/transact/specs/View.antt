@@ -5,6 +5,8 @@ use Rattle.apdu.specs.declared.status.Status.{Status}
 use Rattle.apdu.specs.declared.status.Status.TheVariants as sw
 use Rattle.session.specs.declared.event.Heard.{Heard}
 use Rattle.session.specs.declared.event.Heard.TheVariants.{Repeated, Joined, Gives, Discarded}
+use Rattle.session.specs.declared.state.Session.{Session as Holding}
+use Rattle.tables.specs.declared.rows.Connection.{Connection as Held}
 use Rattle.tables.specs.View.{answers_of, connection_of, tables_of}
 use Rattle.manage.specs.declared.card_core.Core.{Core}
 use Rattle.manage.specs.declared.told.Told.{Told}
@@ -38,6 +40,12 @@ pub record StartedAt (c : Core) (row : ℕ) (s : Started) : Type 0 where
   pub held : Some s.connection ≡ slice_index_or c.tables.connections row None
   pub seen : Some (connection_of s.connection) ≡ slice_index_or (tables_of c.tables).connections row None
   pub is : s.connection.session ≡ Some s.session
+
+-- A row of a core holds a connection with this session.
+pub record LentAt (c : Core) (row : ℕ) (z : Holding) : Type 0 where
+  pub connection : Held
+  pub held : Some connection ≡ slice_index_or c.tables.connections row None
+  pub is : connection.session ≡ Some z
 
 -- The last block of a session; an idle one has none.
 abbrev pub last_of : Talk → Block

@@ -9,7 +9,7 @@ ghost use Rattle.manage.specs.View.{core_of};
 ghost use Rattle.law.specs.Step.{carries, fetches, discards, enough, block_given};
 ghost use Rattle.transact.specs.View.{state_of, ended, told};
 
-use crate::outcome::taken;
+use crate::outcome::{lent, taken};
 use crate::parts::Parts;
 use crate::started::Started;
 use apdu::{Body, Status};
@@ -38,17 +38,17 @@ impl<S: Sealer, A: Application> Parts<S, A> {
     }
 
     // P1 + 1: a block of the answer that a session holds.
-    pub fn fetch(&self, asked: Fetch<'_>) -> Told
+    pub fn fetch(&self, asked: Fetch<'_>) -> Told<'_>
         ensures { carries S.seals A.acts (state_of self.now.core (A.contents self.now.application)) (fetches (core_of self.now.core) asked.entry.row asked.entry.number (shape_of asked.entry.body) (slice_index_or (tables_of self.now.core.tables).connections asked.entry.row None)) ≡ told self.now.core (A.contents self.now.application) result }
     {
         let Fetch { row, number, body } = asked;
-        let Some(started) = Started::at(&self.core, row) else {
+        let Some(session) = lent(&self.core, row) else {
             return Told::from(Status::NotNow);
         };
-        if let Err(status) = started.session.fetch() {
+        if let Err(status) = session.fetch() {
             return Told::from(status);
         }
-        give(&started.session, row, number, body)
+        give(session, row, number, body)
     }
 }
 
@@ -62,7 +62,7 @@ fn is_enough(len: usize, body: Body<'_>) -> bool
 
 // Gives a block of the answer that a session holds: one that is absent is refused first, then a wrong length. It takes what was
 // asked by parts, since the check finds no type of `Le` in a private function that is given a Fetch whole.
-fn give(session: &Session, row: Row, number: u8, body: Body<'_>) -> Told
+fn give<'a>(session: &'a Session, row: Row, number: u8, body: Body<'_>) -> Told<'a>
     ensures { bytes_of result ≡ block_given row (shape_of body.entry) (cut_block session.now.container (answer_in session.now.talk) number) }
 {
     let Some(block) = session.answer_block(number) else {

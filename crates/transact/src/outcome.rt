@@ -8,7 +8,7 @@ ghost use Rattle.tables.specs.View.{connection_of, tables_of, Keeps};
 ghost use Rattle.manage.specs.View.{core_of, Said};
 ghost use Rattle.law.specs.Tables.{idle, started, unstarted, with_session, without_connection};
 ghost use Rattle.law.specs.Step.{says, put, failed, talks, flag, holds_talk};
-ghost use Rattle.transact.specs.View.{said, session_at, StartedAt};
+ghost use Rattle.transact.specs.View.{said, session_at, LentAt, StartedAt};
 
 use crate::started::Started;
 use apdu::Status;
@@ -35,6 +35,15 @@ pub fn said(row: Row, heard: Heard) -> Status
         Heard::Gives => taken(row, true),
         Heard::Discarded => Status::Done,
     }
+}
+
+// The started session of a row, lent, where `Started::at` copies it: a fetch changes nothing, and gives a part of it.
+pub(crate) fn lent(core: &Core, row: Row) -> Option<&Session>
+    ensures none { result ≡ None → session_at (slice_index_or (tables_of core.now.tables).connections row None) ≡ unstarted }
+    ensures some { IfSome result (λ s. LentAt core.now row s.now) }
+{
+    let connection = core.tables.connections[usize::from(row)].as_ref()?;
+    connection.session.as_ref()
 }
 
 impl Started {

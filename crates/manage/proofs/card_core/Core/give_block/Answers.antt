@@ -10,20 +10,21 @@ use Rattle.manage.proofs.card_core.Core.give_block.Goals.{then-block, else-block
 
 pub overflow_add-self : goal.overflow_add-self
 overflow_add-self c =
-    let e : seen c.reply_block-block.result ≡ block_of (held c.args.waiting.reply) c.args.waiting.given c.args.most.wanted = cc in
-    let h = (block_length (held c.args.waiting.reply) c.args.waiting.given c.args.most.wanted (seen c.reply_block-block.result) e).1 (omega (arith, length-take c.args.waiting.reply.len c.args.waiting.reply.bytes, c.as_slice.ensures.within, ap length c.as_slice.ensures.bytes)) (omega arith) in
+    let e : seen c.reply_block-block.result ≡ block_of (held c.args.waiting.now.reply) c.args.waiting.now.given c.args.most.wanted = cc in
+    let h = (block_length (held c.args.waiting.now.reply) c.args.waiting.now.given c.args.most.wanted (seen c.reply_block-block.result) e).1 (omega (arith, length-take c.args.waiting.now.reply.len c.args.waiting.now.reply.bytes, c.as_slice.ensures.within, ap length c.as_slice.ensures.bytes)) (omega arith) in
     omega (arith, h)
 
 pub block-requires : goal.block-requires
 block-requires c =
-    let e : seen c.reply_block-block.result ≡ block_of (held c.args.waiting.reply) c.args.waiting.given c.args.most.wanted = cc in
-    let l = (block_length (held c.args.waiting.reply) c.args.waiting.given c.args.most.wanted (seen c.reply_block-block.result) e).0 in
+    let e : seen c.reply_block-block.result ≡ block_of (held c.args.waiting.now.reply) c.args.waiting.now.given c.args.most.wanted = cc in
+    let l = (block_length (held c.args.waiting.now.reply) c.args.waiting.now.given c.args.most.wanted (seen c.reply_block-block.result) e).0 in
     omega arith
 
 pub returns : goal.returns
 returns c =
-    let e : seen c.reply_block-block.result ≡ block_of (held c.args.waiting.reply) c.args.waiting.given c.args.most.wanted = cc in
+    let e : seen c.reply_block-block.result ≡ block_of (held c.args.waiting.now.reply) c.args.waiting.now.given c.args.most.wanted = cc in
     let by : Bool → Status = λ b. cond b MoreToFetch Done in
     let end : c.if-block.end ≡ by c.reply_block-block.result.more =
     elim c.if-block.branch [ then-block w ↦ w.end-is ∙ ap by (sym w.if-block.true) | else-block w ↦ w.end-is ∙ ap by (sym w.if-block.false) ] in
-    gives c.args.self.now c.args.waiting.kind c.args.waiting.reply c.args.waiting.given c.args.most.wanted (seen c.reply_block-block.result) c.if-block.end c.block.result e end c.block.ensures
+    gives c.args.self.now c.args.waiting.now.kind c.args.waiting.now.reply c.args.waiting.now.given c.args.most.wanted (seen c.reply_block-block.result) c.if-block.end c.block.result c.args.reply.now c.write.new.reply c.write.result
+    e end c.block.ensures c.write.ensures.len c.write.ensures.written
