@@ -17,35 +17,36 @@ use replies::block::reply_block;
 use replies::reply::{DiscoveryReply, LONGEST, Reply};
 
 impl Core {
-    // Gives up to so many bytes of a reply from a place on, and remembers how far that went.
-    fn give_block(&mut self, waiting: &Waiting, most: Le, reply: &mut [u8]) -> usize
+    // Gives up to so many bytes of a reply from a place on, and remembers how far that went. The reply is lent, here and above it,
+    // so that it is copied once, into what is pending.
+    fn give_block(&mut self, waiting: &mut Waiting, most: Le, reply: &mut [u8]) -> usize
         requires most { most.wanted ≤ 256 }
         requires room { 258 ≤ length reply.old }
-        ensures { Replied (given (core_of self.old) (kind_of waiting.now.kind) (held waiting.now.reply) waiting.now.given most.wanted) self.old self.new reply.old reply.new result }
+        ensures { Replied (given (core_of self.old) (kind_of waiting.old.kind) (held waiting.old.reply) waiting.old.given most.wanted) self.old self.new reply.old reply.new result }
     {
         let block = reply_block(
             waiting.reply.as_slice(),
             waiting.given,
             usize::from(most.wanted),
         );
-        self.pending = Pending::Reply(Waiting {
-            given: waiting.given + block.bytes.len(),
-            ..*waiting
-        });
+        let given = waiting.given + block.bytes.len();
         let end = if block.more {
             Status::MoreToFetch
         } else {
             Status::Done
         };
-        Told::block(block.bytes, end).write(reply)
+        let told = Told::block(block.bytes, end).write(reply);
+        waiting.given = given;
+        self.pending = Pending::Reply(*waiting);
+        told
     }
 
     // A reply block carries Le alone.
     #[tactic(auto, using(apdu::proofs::Within::le_within))]
-    fn give(&mut self, waiting: &Waiting, body: Body<'_>, reply: &mut [u8]) -> usize
+    fn give(&mut self, waiting: &mut Waiting, body: Body<'_>, reply: &mut [u8]) -> usize
         requires proper { Proper (shape_of body) }
         requires room { 258 ≤ length reply.old }
-        ensures { Replied (gives_reply (core_of self.old) (kind_of waiting.now.kind) (held waiting.now.reply) waiting.now.given (shape_of body.entry)) self.old self.new reply.old reply.new result }
+        ensures { Replied (gives_reply (core_of self.old) (kind_of waiting.old.kind) (held waiting.old.reply) waiting.old.given (shape_of body.entry)) self.old self.new reply.old reply.new result }
     {
         let Some(most) = body.le_alone() else {
             return self.say(Status::WrongLength, reply);
@@ -62,10 +63,16 @@ impl Core {
     }
 
     // P1 is to be that of the reply that waits.
-    fn give_as(&mut self, kind: Kind, waiting: &Waiting, body: Body<'_>, reply: &mut [u8]) -> usize
+    fn give_as(
+        &mut self,
+        kind: Kind,
+        waiting: &mut Waiting,
+        body: Body<'_>,
+        reply: &mut [u8],
+    ) -> usize
         requires proper { Proper (shape_of body) }
         requires room { 258 ≤ length reply.old }
-        ensures { Replied (replies_as (core_of self.old) (kind_of kind) (held waiting.now.reply) waiting.now.given (shape_of body.entry) (same_kind (kind_of waiting.now.kind) (kind_of kind))) self.old self.new reply.old reply.new result }
+        ensures { Replied (replies_as (core_of self.old) (kind_of kind) (held waiting.old.reply) waiting.old.given (shape_of body.entry) (same_kind (kind_of waiting.old.kind) (kind_of kind))) self.old self.new reply.old reply.new result }
     {
         if waiting.kind != kind {
             return self.say(Status::WrongParameters, reply);
@@ -79,14 +86,11 @@ impl Core {
         requires room { 258 ≤ length reply.old }
         ensures { Replied (answers (core_of self.old) (kind_of kind) (shape_of body.entry) (pending_of self.old.pending)) self.old self.new reply.old reply.new result }
     {
-        let Pending::Reply(waiting) = self.pending else {
+        let Pending::Reply(mut whole) = self.pending else {
             return self.say(Status::NotNow, reply);
         };
-        let whole = Waiting {
-            given: 0,
-            ..waiting
-        };
-        self.give_as(kind, &whole, body, reply)
+        whole.given = 0;
+        self.give_as(kind, &mut whole, body, reply)
     }
 
     // P2 20: the reply that waits, from where the last block ended.
@@ -95,10 +99,10 @@ impl Core {
         requires room { 258 ≤ length reply.old }
         ensures { Replied (goes_on (core_of self.old) (kind_of kind) (shape_of body.entry) (pending_of self.old.pending)) self.old self.new reply.old reply.new result }
     {
-        let Pending::Reply(waiting) = self.pending else {
+        let Pending::Reply(mut waiting) = self.pending else {
             return self.say(Status::NotNow, reply);
         };
-        self.give_as(kind, &waiting, body, reply)
+        self.give_as(kind, &mut waiting, body, reply)
     }
 
     // A discovery: what the card says of itself, made anew.
@@ -113,7 +117,7 @@ impl Core {
             given: 0,
         };
         waiting.reply.append(self.discovery().as_slice()).unwrap();
-        self.give(&waiting, body, reply)
+        self.give(&mut waiting, body, reply)
     }
 
     // The object of a discovery.

@@ -8,8 +8,8 @@ use Rattle.apdu.specs.declared.status.Status.TheVariants.{MoreToFetch, Done}
 use Rattle.manage.proofs.card_core.Core.give_block.Goals as goal
 use Rattle.manage.proofs.card_core.Core.give_block.Goals.{then-block, else-block}
 
-pub overflow_add-self : goal.overflow_add-self
-overflow_add-self c =
+pub overflow_add-given : goal.overflow_add-given
+overflow_add-given c =
     let e : seen c.reply_block-block.result ≡ block_of (held c.args.waiting.now.reply) c.args.waiting.now.given c.args.most.wanted = cc in
     let h = (block_length (held c.args.waiting.now.reply) c.args.waiting.now.given c.args.most.wanted (seen c.reply_block-block.result) e).1 (omega (arith, length-take c.args.waiting.now.reply.len c.args.waiting.now.reply.bytes, c.as_slice.ensures.within, ap length c.as_slice.ensures.bytes)) (omega arith) in
     omega (arith, h)
@@ -26,5 +26,5 @@ returns c =
     let by : Bool → Status = λ b. cond b MoreToFetch Done in
     let end : c.if-block.end ≡ by c.reply_block-block.result.more =
     elim c.if-block.branch [ then-block w ↦ w.end-is ∙ ap by (sym w.if-block.true) | else-block w ↦ w.end-is ∙ ap by (sym w.if-block.false) ] in
-    gives c.args.self.now c.args.waiting.now.kind c.args.waiting.now.reply c.args.waiting.now.given c.args.most.wanted (seen c.reply_block-block.result) c.if-block.end c.block.result c.args.reply.now c.write.new.reply c.write.result
-    e end c.block.ensures c.write.ensures.len c.write.ensures.written
+    gives c.args.self.now c.args.waiting.now.kind c.args.waiting.now.reply c.args.waiting.now.given c.args.most.wanted (seen c.reply_block-block.result) c.if-block.end c.block.result c.args.reply.now c.write-told.new.reply c.write-told.result
+    e end c.block.ensures c.write-told.ensures.len c.write-told.ensures.written
