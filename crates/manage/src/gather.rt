@@ -14,6 +14,7 @@ ghost use Rattle.manage.specs.View.{core_of, pending_of, with_pending, refused_c
 
 use crate::card_core::Core;
 use crate::pending::{Gathered, Pending, Waiting};
+use crate::same::is_same;
 use apdu::{Body, Kind, Status};
 use associate::{Lent, carry_out};
 use buffer::{Buffer, ROOM, Store};
@@ -119,7 +120,7 @@ impl Core {
         requires proper { Proper (shape_of body) }
         ensures { Said (continues_as keyed (core_of self.old) lent.entry.random.now (kind_of kind) (held gathered.bytes) (shape_of body.entry) (same_kind (kind_of gathered.kind) (kind_of kind))) self.old self.new result }
     {
-        if gathered.kind != kind {
+        if !is_same(gathered.kind, kind) {
             return Status::WrongParameters;
         }
         self.join(kind, gathered.bytes.as_slice(), body, lent)

@@ -10,6 +10,7 @@ ghost use Rattle.manage.specs.View.{core_of, pending_of, Replied};
 
 use crate::card_core::Core;
 use crate::pending::{Pending, Waiting};
+use crate::same::is_same;
 use crate::told::Told;
 use apdu::{Body, Kind, Le, Status};
 use buffer::{Buffer, Store};
@@ -74,7 +75,7 @@ impl Core {
         requires room { 258 ≤ length reply.old }
         ensures { Replied (replies_as (core_of self.old) (kind_of kind) (held waiting.old.reply) waiting.old.given (shape_of body.entry) (same_kind (kind_of waiting.old.kind) (kind_of kind))) self.old self.new reply.old reply.new result }
     {
-        if waiting.kind != kind {
+        if !is_same(waiting.kind, kind) {
             return self.say(Status::WrongParameters, reply);
         }
         self.give(waiting, body, reply)

@@ -6,6 +6,7 @@ mod card_core;
 mod gather;
 mod give;
 mod pending;
+mod same;
 mod tell;
 mod told;
 

@@ -10,8 +10,8 @@ use Rattle.manage.specs.View.{core_of}
 use Rattle.manage.proofs.Said.{still}
 use Rattle.manage.proofs.card_core.Core.join_as.Goals as goal
 
-pub returns-then-ne : goal.returns-then-ne
-returns-then-ne c =
+pub returns-then-not-is_same : goal.returns-then-not-is_same
+returns-then-not-is_same c =
     let d = c.args.self.now in
     let by = continues_as keyed (core_of d) c.args.lent.random.now (kind_of c.args.kind) (held c.args.gathered.bytes) (shape_of c.args.body) in
     let same : same_kind (kind_of c.args.gathered.kind) (kind_of c.args.kind) ≡ false = search rules in
