@@ -1,8 +1,7 @@
 // Objects gathered from command blocks, and carried out.
-ghost use Rattle.std.specs.Prelude.{◌≡◌, ◌<◌, ◌≤◌, [], length};
+ghost use Rattle.std.specs.Prelude.{◌≡◌, ◌<◌, ◌≤◌, [], ◌++◌, length};
 ghost use Rattle.buffer.specs.Held.{held};
 ghost use Rattle.apdu.specs.View.{shape_of};
-ghost use Rattle.apdu.specs.Writing.{Proper};
 ghost use Rattle.objects.specs.Joined.{object};
 ghost use Rattle.request.specs.View.{kind_of};
 ghost use Rattle.law.specs.Request.{asked, same_kind};
@@ -84,19 +83,28 @@ impl Core {
         }
     }
 
+    // A block behind what was gathered. What the room for both does not hold is longer than any object, so it is none.
+    fn judge_both(&mut self, kind: Kind, gathered: &[u8], part: &[u8], lent: Lent<'_>) -> Status
+        requires { length gathered.now ≤ 288 }
+        ensures { Said (joined keyed (core_of self.old) lent.entry.random.now (kind_of kind) (gathered.now ++ part.now) (object (gathered.now ++ part.now))) self.old self.new result }
+    {
+        let mut joined: Store<JOINED> = Store::new();
+        joined.append(gathered).unwrap();
+        let Ok(()) = joined.append(part) else {
+            return self.refuse(Status::WrongData);
+        };
+        self.judge(kind, joined.as_slice(), lent)
+    }
+
     // A command block: data alone joins what was gathered, and drops whatever else was pending.
     fn join(&mut self, kind: Kind, gathered: &[u8], body: Body<'_>, lent: Lent<'_>) -> Status
-        requires gathered { length gathered.now ≤ 288 }
-        requires proper { Proper (shape_of body) }
+        requires { length gathered.now ≤ 288 }
         ensures { Said (joins keyed (core_of self.old) lent.entry.random.now (kind_of kind) gathered.now (shape_of body.entry)) self.old self.new result }
     {
         let Some(part) = body.data_alone() else {
             return Status::WrongLength;
         };
-        let mut joined: Store<JOINED> = Store::new();
-        joined.append(gathered).unwrap();
-        joined.append(part.bytes).unwrap();
-        self.judge(kind, joined.as_slice(), lent)
+        self.judge_both(kind, gathered, part.bytes, lent)
     }
 
     // P2 80: a first command block. Its area is a slice, here and in `resume`: a host lends one of any length from 64 on.
@@ -107,7 +115,6 @@ impl Core {
         random: &[u8; 32],
         area: &mut [u8],
     ) -> Status
-        requires proper { Proper (shape_of body) }
         requires area { 64 ≤ length area.old }
         ensures { Said (joins keyed (core_of self.old) random.now (kind_of kind) [] (shape_of body.entry)) self.old self.new result }
     {
@@ -117,7 +124,6 @@ impl Core {
 
     // P1 is to be that of the blocks that were gathered.
     fn join_as(&mut self, kind: Kind, gathered: Gathered, body: Body<'_>, lent: Lent<'_>) -> Status
-        requires proper { Proper (shape_of body) }
         ensures { Said (continues_as keyed (core_of self.old) lent.entry.random.now (kind_of kind) (held gathered.bytes) (shape_of body.entry) (same_kind (kind_of gathered.kind) (kind_of kind))) self.old self.new result }
     {
         if !is_same(gathered.kind, kind) {
@@ -134,7 +140,6 @@ impl Core {
         random: &[u8; 32],
         area: &mut [u8],
     ) -> Status
-        requires proper { Proper (shape_of body) }
         requires area { 64 ≤ length area.old }
         ensures { Said (continues keyed (core_of self.old) random.now (kind_of kind) (shape_of body.entry) (pending_of self.old.pending)) self.old self.new result }
     {
@@ -143,5 +148,47 @@ impl Core {
         };
         let area = area.first_chunk_mut::<64>().unwrap();
         self.join_as(kind, gathered, body, Lent { random, area })
+    }
+}
+
+#[cfg(test)]
+mod tests {
+    use super::*;
+    use apdu::Data;
+    use tables::Tables;
+
+    const RANDOM: [u8; 32] = [0; 32];
+
+    fn core() -> Core {
+        Core {
+            tables: Tables::new(),
+            pending: Pending::Nothing,
+            failures: 0,
+            required: false,
+        }
+    }
+
+    fn first(core: &mut Core, bytes: &[u8]) -> Status {
+        let block = Body::Data(Data { bytes });
+        core.begin(Kind::Master, block, &RANDOM, &mut [0; 64])
+    }
+
+    fn next(core: &mut Core, bytes: &[u8]) -> Status {
+        let block = Body::Data(Data { bytes });
+        core.resume(Kind::Master, block, &RANDOM, &mut [0; 64])
+    }
+
+    // Blocks that no command carries, since they have more than 255 bytes, or none.
+    #[test]
+    fn blocks_of_any_length_are_judged(rt: HostRuntime) {
+        let mut core = core();
+        assert!(rt; first(&mut core, &[0x73; 600]) == Status::WrongData);
+        assert!(rt; first(&mut core, &[]) == Status::MoreToSend);
+        assert!(rt; next(&mut core, &[0x73, 0x81, 0xFF]) == Status::MoreToSend);
+        assert!(rt; next(&mut core, &[0; 256]) == Status::WrongData);
+        assert!(rt; next(&mut core, &[0]) == Status::NotNow);
+        assert!(rt; first(&mut core, &[0x73, 0x81, 0xFF]) == Status::MoreToSend);
+        assert!(rt; next(&mut core, &[0; 2000]) == Status::WrongData);
+        assert!(rt; next(&mut core, &[0]) == Status::NotNow);
     }
 }

@@ -1,7 +1,5 @@
-use Rattle.std.proofs.Common.{◌≡◌, ◌≤◌, ◌++◌, length, ◌∙◌, arith}
-use Rattle.std.proofs.lemmas.Grind.{common_steps}
+use Rattle.std.proofs.Common.{◌++◌, refl, ◌∙◌}
 use Rattle.apdu.specs.View.{shape_of}
-use Rattle.apdu.proofs.Within.{data_within}
 use Rattle.apdu.specs.declared.status.Status.TheVariants.{WrongLength}
 use Rattle.request.specs.View.{kind_of}
 use Rattle.law.specs.Hashes.{keyed}
@@ -16,19 +14,12 @@ returns-in_default c =
     still (joins keyed (core_of d) c.args.lent.random.now (kind_of c.args.kind) c.args.gathered.now (shape_of c.args.body)) d WrongLength
     (no_data keyed (core_of d) c.args.lent.random.now (kind_of c.args.kind) c.args.gathered.now (shape_of c.args.body) c.in_default.ensures)
 
-pub unwrap-requires : goal.unwrap-requires
-unwrap-requires c =
-    let few : length c.in-Some.part.bytes.now ≤ 255 = data_within (shape_of c.args.body) c.in-Some.part.bytes.now c.requires.proper c.in-Some.ensures in
-    grind (arith, common_steps)
-
 pub returns : goal.returns
 returns c =
-    let few : length c.in-Some.part.bytes.now ≤ 255 = data_within (shape_of c.args.body) c.in-Some.part.bytes.now c.requires.proper c.in-Some.ensures in
-    let whole : c.as_slice.result.now ≡ c.args.gathered.now ++ c.in-Some.part.bytes.now = grind (arith, common_steps) in
     record {
       move =
           with_data keyed (core_of c.args.self.now) c.args.lent.random.now (kind_of c.args.kind) c.args.gathered.now (shape_of c.args.body)
-          c.in-Some.part.bytes.now c.as_slice.result.now c.in-Some.ensures whole
-          ∙ c.judge.ensures.move;
-      answers = c.judge.ensures.answers;
+          c.in-Some.part.bytes.now (c.args.gathered.now ++ c.in-Some.part.bytes.now) c.in-Some.ensures refl
+          ∙ c.judge_both.ensures.move;
+      answers = c.judge_both.ensures.answers;
     }
