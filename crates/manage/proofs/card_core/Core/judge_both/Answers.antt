@@ -1,4 +1,4 @@
-use Rattle.std.proofs.Common.{◌≡◌, ◌<◌, ◌++◌, length, sym, arith, rules}
+use Rattle.std.proofs.Common.{◌≡◌, ◌++◌, sym, arith, rules}
 use Rattle.std.proofs.lemmas.Grind.{common_steps}
 use Rattle.std.proofs.lemmas.Bool.Decides.{nat_tests}
 use Rattle.byte_lists.specs.Bytes.{Bytes}
@@ -15,7 +15,6 @@ pub returns-in_default : goal.returns-in_default
 returns-in_default c =
     let z = c.args.gathered.now ++ c.args.part.now in
     let bytes : Bytes z = bytes_append c.args.gathered.now c.args.part.now (λ i. search rules) (λ i. search rules) in
-    let long : 543 < length z = grind (arith, common_steps, nat_tests) in
-    let none : object z ≡ bad = prefix_free.too_long z bytes (omega (arith, long)) in
+    let none : object z ≡ bad = prefix_free.too_long z bytes (grind (arith, common_steps, nat_tests)) in
     joined_bad keyed c.args.self.now c.args.lent.random.now (kind_of c.args.kind) z (object z) c.refuse.new.self c.refuse.result
     (sym none) c.refuse.ensures.core c.refuse.ensures.status
